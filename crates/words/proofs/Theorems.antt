@@ -1,0 +1,52 @@
+-- What the contracts of this crate come to: each answer is unique, and a word's kind is that of the one entry whose word is this
+-- one folded, else TK_ID. Assumes nothing.
+use Prim.Native.Nat.{ℕ, _<_}
+use mathlib.Core.Path.{_≡_, refl, sym, _∙_}
+use mathlib.Core.Bool.{Bool, true, _&&_}
+use mathlib.Core.List.{List, [], _∷_, _++_}
+use lib.Dec.{eqb}
+use lib.ListN.{length, getD}
+use Rattle.keywords.specs.Kinds.{kind}
+use Rattle.keywords.specs.Text.{bytes}
+use Rattle.keywords.specs.Words.{Entry, entry, wordList}
+use Rattle.keywords.proofs.Theorems.{found, missed}
+use Rattle.words.specs.Word.{upper, fold, kindOf}
+
+-- Every contract here and in `keywords` says that the result is f of the input, for an f of specs/: two results that meet it
+-- are equal.
+pub unique : {A B : Type 0} (f : A → B) (x : A) (r s : B) → r ≡ f x → s ≡ f x → r ≡ s
+unique f x r s p q = p ∙ sym q
+
+pub listed : (w : List ℕ) (d : Entry) (k : ℕ) → k < length wordList → fold w ≡ getD wordList k d .word → kindOf w ≡ getD wordList k d .kind
+unfolding kindOf
+listed w d k h e = rw e (found d k h)
+
+pub unlisted : (w : List ℕ) (d : Entry) → ((k : ℕ) → k < length wordList → fold w ≡ getD wordList k d .word → ⊥) → kindOf w ≡ kind "TK_ID"
+unfolding kindOf
+unlisted w d n = missed wordList (fold w) d n
+
+-- Words that are easy to get wrong, with the kinds that they must have.
+pub table : List Entry
+table =
+    entry "returning" "TK_RETURNING" ∷
+    entry "Restrict" "TK_RESTRICT" ∷
+    entry "ORDER" "TK_ORDER" ∷
+    entry "optimize" "TK_OPTIMIZE" ∷
+    entry "AS" "TK_AS" ∷
+    entry "ASC" "TK_ASC" ∷
+    entry "AS." "TK_ID" ∷
+    entry "" "TK_ID" ∷
+    entry "current_timestamp" "TK_CTIME_KW" ∷
+    entry "current_timestamps" "TK_ID" ∷
+    record { word = bytes "AS" ++ 0 ∷ []; kind = kind "TK_ID" } ∷
+    record { word = 0xC1 ∷ 0xD3 ∷ []; kind = kind "TK_ID" } ∷
+    record { word = 0xE1 ∷ 0xF3 ∷ []; kind = kind "TK_ID" } ∷
+    []
+
+abbrev pub agree : List Entry → Bool
+agree [] = true
+agree (e ∷ es) = eqb (kindOf (e .word)) (e .kind) && agree es
+
+pub examples : agree table ≡ true
+unfolding table kindOf upper wordList
+examples = refl

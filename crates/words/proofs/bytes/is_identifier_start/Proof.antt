@@ -1,0 +1,39 @@
+-- `words::bytes::is_identifier_start` meets its contract: each way out has the tests that led there. Assumes nothing.
+use mathlib.Core.Path.{sym, _∙_}
+use borrow.Author.Tests.{eq-eqb, ne-eqb}
+use borrow.Author.Needs.{needs}
+use Rattle.words.specs.Bytes.{isIdentifierStart}
+use Rattle.words.proofs.bytes.is_identifier_start.Statement.{statement}
+use Rattle.words.proofs.bytes.is_identifier_start.Tie as tie
+
+between-requires : tie.Need-between-requires
+between-requires c κs = search needs
+
+returns : tie.Need-returns
+unfolding isIdentifierStart
+returns c = rw (sym (c .before .between .ensures) ∙ c .if1 .taken)
+
+between-requires-2 : tie.Need-between-requires-2
+between-requires-2 c κs = search needs
+
+returns-2 : tie.Need-returns-2
+unfolding isIdentifierStart
+returns-2 c =
+    let s = c .before in
+    rw (sym (s .before .before .between .ensures) ∙ s .before .if1 .left, sym (s .between2 .ensures) ∙ c .if2 .taken)
+
+returns-3 : tie.Need-returns-3
+unfolding isIdentifierStart
+returns-3 c =
+    let s = c .before .before in
+    rw (sym (s .before .before .between .ensures) ∙ s .before .if1 .left, sym (s .between2 .ensures) ∙ c .before .if2 .left, eq-eqb _ _ (c .if3 .taken))
+
+returns-4 : tie.Need-returns-4
+unfolding isIdentifierStart
+returns-4 c =
+    let s = c .before .before in
+    rw (sym (s .before .before .between .ensures) ∙ s .before .if1 .left, sym (s .between2 .ensures) ∙ c .before .if2 .left, ne-eqb _ _ (c .if3 .left))
+
+pub is-identifier-start-spec : {M : Type 1} → statement M
+is-identifier-start-spec =
+    tie.close (tie.spec between-requires returns between-requires-2 returns-2 returns-3 returns-4)
