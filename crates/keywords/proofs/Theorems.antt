@@ -1,9 +1,10 @@
--- What looking a word up comes to: it finds the kind of the one entry with this word, wherever the entry stands, and TK_ID where
--- there is none. Assumes nothing.
+-- Two theorems for readers. Where a contract says that the result is f of the input, as all do from here up to the words, two results
+-- that meet it are equal. And looking a word up finds the kind of the one entry with this word, wherever the entry stands, and TK_ID
+-- where there is none. Assumes nothing.
 use Prim.Native.Nat.{ℕ, zero, suc, _<_}
 use native.Mathlib.Nat.{not-suc-le-zero, le-of-suc-le-suc}
 use native.Mathlib.Omega.{arith}
-use mathlib.Core.Path.{_≡_, refl}
+use mathlib.Core.Path.{_≡_, refl, sym, _∙_}
 use mathlib.Core.Bool.{Bool, true, false, not, _&&_}
 use mathlib.Core.List.{List, [], _∷_}
 use lib.ListN.{length, getD}
@@ -12,6 +13,9 @@ use Rattle.keywords.specs.Kinds.{kind}
 use Rattle.keywords.specs.Words.{Entry, wordList, same, kindIn}
 use Rattle.keywords.proofs.Logic.{split, and-left, and-right}
 use Rattle.keywords.proofs.SameLaws.{same-refl, same-true}
+
+pub unique : {A B : Type 0} (f : A → B) (x : A) (r s : B) → r ≡ f x → s ≡ f x → r ≡ s
+unique f x r s p q = p ∙ sym q
 
 -- the word stands in no entry
 abbrev absent : List ℕ → List Entry → Bool

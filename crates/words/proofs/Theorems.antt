@@ -1,7 +1,6 @@
--- What the contracts of this crate come to: each answer is unique, and a word's kind is that of the one entry whose word is this
--- one folded, else TK_ID. Assumes nothing.
+-- A word's kind is that of the one entry whose word is this one folded, else TK_ID. Assumes nothing.
 use Prim.Native.Nat.{ℕ, _<_}
-use mathlib.Core.Path.{_≡_, refl, sym, _∙_}
+use mathlib.Core.Path.{_≡_, refl}
 use mathlib.Core.Bool.{Bool, true, _&&_}
 use mathlib.Core.List.{List, [], _∷_, _++_}
 use lib.Dec.{eqb}
@@ -12,15 +11,12 @@ use Rattle.keywords.specs.Words.{Entry, entry, wordList}
 use Rattle.keywords.proofs.Theorems.{found, missed}
 use Rattle.words.specs.Word.{upper, fold, kindOf}
 
--- Every contract here and in `keywords` says that the result is f of the input, for an f of specs/: two results that meet it
--- are equal.
-pub unique : {A B : Type 0} (f : A → B) (x : A) (r s : B) → r ≡ f x → s ≡ f x → r ≡ s
-unique f x r s p q = p ∙ sym q
-
+-- the kind of an entry that stands anywhere in the list
 pub listed : (w : List ℕ) (d : Entry) (k : ℕ) → k < length wordList → fold w ≡ getD wordList k d .word → kindOf w ≡ getD wordList k d .kind
 unfolding kindOf
 listed w d k h e = rw e (found d k h)
 
+-- and of a word that is no entry's
 pub unlisted : (w : List ℕ) (d : Entry) → ((k : ℕ) → k < length wordList → fold w ≡ getD wordList k d .word → ⊥) → kindOf w ≡ kind "TK_ID"
 unfolding kindOf
 unlisted w d n = missed wordList (fold w) d n
