@@ -2,6 +2,7 @@
 ghost use mathlib.Core.Path.{_≡_};
 ghost use Rattle.words.specs.Bytes.{within, isDigit, isHexdigit, isIdentifierStart, isIdentifierContinue, isBlank};
 
+// Whether b is lo, hi or a byte between them.
 pub(crate) fn between(lo: u8, hi: u8, b: u8) -> bool
     ensures { λ r. ⌜ r ≡ within lo hi b ⌝ }
 {

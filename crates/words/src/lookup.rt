@@ -17,6 +17,7 @@ fn upper(b: u8) -> u8
     b
 }
 
+// The word in capitals, with dots behind it: the row that the word list is looked through for.
 fn fold(word: &[u8]) -> [u8; 17]
     requires { ⌜ length (now word) ≤ 17 ⌝ }
     ensures { λ r. ⌜ r ≡ rowOf 17 (fold (now (word .entry))) ⌝ }

@@ -8,10 +8,10 @@ use Rattle.keywords.proofs.find.Statement.{statement}
 use Rattle.keywords.proofs.find.Tie as tie
 
 abbrev Inv-loop : tie.InvT-loop
-Inv-loop table row n k₀ end k = (end ≤ 151) × Left n row k end
+Inv-loop rows row n k₀ end k = (end ≤ 151) × Left n row k end
 
 abbrev μ-loop : tie.MeasureT-loop
-μ-loop table row n k₀ end k = end - k
+μ-loop rows row n k₀ end k = end - k
 
 first-row-requires : tie.Need-first-row-requires Inv-loop μ-loop
 first-row-requires c κs = search needs
