@@ -14,8 +14,8 @@ use borrow.Author.Tests.{ltb-true, ltb-false, ne-eqb}
 use Rattle.keywords.specs.Kinds.{kind}
 use Rattle.keywords.specs.Words.{Entry, wordList, same, kindIn}
 use Rattle.keywords.specs.Rows.{rowEntry, ofLength, below, stored, firstOf, kindOfRow}
-use Rattle.keywords.proofs.Logic.{split, and-left, and-right}
-use Rattle.keywords.proofs.KindLaws.{keyword, keywords, all-keywords, short}
+use Rattle.keywords.proofs.Logic.{split, and-left, and-right, every}
+use Rattle.keywords.proofs.KindLaws.{keyword, all-keywords, short}
 
 -- below its end a mapped list is read through the map; the defaults do not matter
 pub getD-map : {A B : Type 0} (f : A → B) (l : List A) (k : ℕ) (d : A) (z : B) → k < length l → getD (map f l) k z ≡ f (getD l k d)
@@ -89,9 +89,11 @@ left-none n r k end h l =
     l ∙ rw q
 
 -- no word is longer than its row
-pub longer : (n : ℕ) (es : List Entry) → keywords es ≡ true → 17 < n → ofLength n es ≡ []
+pub longer : (n : ℕ) (es : List Entry) → every keyword es ≡ true → 17 < n → ofLength n es ≡ []
 longer n [] t h = refl
-longer n (e ∷ es) t h = rw (ne-eqb (length (e .word)) n (λ q. omega (arith, short e (and-left (keyword e) (keywords es) t)))) (longer n es (and-right (keyword e) (keywords es) t) h)
+longer n (e ∷ es) t h =
+    let s = short e (and-left (keyword e) (every keyword es) t) in
+    rw (ne-eqb (length (e .word)) n (λ q. omega arith)) (longer n es (and-right (keyword e) (every keyword es) t) h)
 
 pub left-out : (n : ℕ) (r : List ℕ) → 17 < n → kindOfRow n r ≡ kind "TK_ID"
 unfolding kindOfRow

@@ -1,5 +1,5 @@
 -- How the code stores the word list: a row of 17 bytes for each word, the shortest words first, and the kinds in the same order.
--- Nothing that a caller needs to read. Assumes nothing.
+-- Only the contracts of this crate speak of it; a word's kind is defined without it. Assumes nothing.
 use Prim.Native.Nat.{ℕ, zero, suc}
 use Prim.Native.Char.{code}
 use mathlib.Core.Bool.{cond}

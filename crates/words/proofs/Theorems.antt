@@ -1,13 +1,14 @@
 -- A word's kind is that of the one entry whose word is this one folded, else TK_ID. Assumes nothing.
 use Prim.Native.Nat.{ℕ, _<_}
 use mathlib.Core.Path.{_≡_, refl}
-use mathlib.Core.Bool.{Bool, true, _&&_}
+use mathlib.Core.Bool.{true}
 use mathlib.Core.List.{List, [], _∷_, _++_}
 use lib.Dec.{eqb}
 use lib.ListN.{length, getD}
 use Rattle.keywords.specs.Kinds.{kind}
 use Rattle.keywords.specs.Text.{bytes}
 use Rattle.keywords.specs.Words.{Entry, entry, wordList}
+use Rattle.keywords.proofs.Logic.{every}
 use Rattle.keywords.proofs.Theorems.{found, missed}
 use Rattle.words.specs.Word.{upper, fold, kindOf}
 
@@ -39,10 +40,6 @@ table =
     record { word = 0xE1 ∷ 0xF3 ∷ []; kind = kind "TK_ID" } ∷
     []
 
-abbrev pub agree : List Entry → Bool
-agree [] = true
-agree (e ∷ es) = eqb (kindOf (e .word)) (e .kind) && agree es
-
-pub examples : agree table ≡ true
+pub examples : every (λ e. eqb (kindOf (e .word)) (e .kind)) table ≡ true
 unfolding table kindOf upper wordList
 examples = refl

@@ -1,4 +1,4 @@
--- What a word's kind is: that of the entry whose word is this one folded, else TK_ID. Assumes nothing.
+-- What a word's kind is, and which words are quotable keywords. Assumes nothing.
 use Prim.Native.Nat.{ℕ, _-_}
 use mathlib.Core.Bool.{Bool, cond, not, _&&_}
 use mathlib.Core.List.{List, map}
@@ -14,9 +14,10 @@ upper b = cond (between "a" "z" b) (b - 32) b
 abbrev pub fold : List ℕ → List ℕ
 fold w = map upper w
 
+-- the kind of the entry whose word is w folded, else TK_ID
 unfoldable pub kindOf : List ℕ → ℕ
 kindOf w = kindIn wordList (fold w)
 
--- neither TK_ID nor TK_TYPE
+-- the kind is neither TK_ID nor TK_TYPE
 unfoldable pub isQuotable : List ℕ → Bool
 isQuotable w = not (eqb (kindOf w) (kind "TK_ID")) && not (eqb (kindOf w) (kind "TK_TYPE"))

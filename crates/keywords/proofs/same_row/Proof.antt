@@ -27,7 +27,8 @@ array-read-if1-2 c = search needs
 returns : tie.Need-returns Inv-loop μ-loop
 returns c =
     let l = c .before .before .loop in
-    sym (l .inv .1 ∙ same-stop 17 (c .before .before .before .args .t1) (c .before .before .before .args .t2) (search needs) (search needs) (l .i) (omega arith) (c .if1 .taken))
+    let a = c .before .before .before .args in
+    sym (l .inv .1 ∙ same-stop 17 (a .t1) (a .t2) (search needs) (search needs) (l .i) (omega arith) (c .if1 .taken))
 
 add-i : tie.Need-add-i Inv-loop μ-loop
 add-i c = search needs
@@ -38,12 +39,14 @@ loop-less c = search needs
 loop-again : tie.Need-loop-again Inv-loop μ-loop
 loop-again c =
     let l = c .before .before .loop in
-    (omega arith, l .inv .1 ∙ same-step 17 (c .before .before .before .args .t1) (c .before .before .before .args .t2) (search needs) (search needs) (l .i) (omega arith) (c .if1 .left))
+    let a = c .before .before .before .args in
+    (omega arith, l .inv .1 ∙ same-step 17 (a .t1) (a .t2) (search needs) (search needs) (l .i) (omega arith) (c .if1 .left))
 
 returns-2 : tie.Need-returns-2 Inv-loop μ-loop
 returns-2 c =
     let l = c .before .loop in
-    sym (l .inv .1 ∙ same-end 17 (c .before .before .args .t1) (c .before .before .args .t2) (search needs) (search needs) (l .i) (omega arith))
+    let a = c .before .before .args in
+    sym (l .inv .1 ∙ same-end 17 (a .t1) (a .t2) (search needs) (search needs) (l .i) (omega arith))
 
 pub same-row-spec : {M : Type 1} → statement M
 same-row-spec =

@@ -45,7 +45,10 @@ loop-again c =
     (omega arith, rw (l .inv .1) (name-more k (l .i) _ (c .before .before .before .pre .1) (c .before .loop-test .taken) e))
 
 returns : tie.Need-returns Inv-loop μ-loop
-returns c = c .before .loop .inv .1 ∙ name-whole (c .before .before .args .k) (c .before .loop .i) (c .loop-test .left)
+returns c =
+    let f = c .before .before in
+    let l = c .before .loop in
+    l .inv .1 ∙ name-whole (f .args .k) (l .i) (f .pre .1) (c .loop-test .left)
 
 pub name-at-spec : {M : Type 1} → statement M
 name-at-spec =
