@@ -1,0 +1,12 @@
+pub mod Tests
+pub mod Rest
+pub mod States
+pub mod Model
+pub mod High
+pub mod Alike
+pub mod Reach
+pub mod ClassLaws
+pub mod Unique
+pub mod Lexemes
+pub mod Theorems
+pub mod Unknown

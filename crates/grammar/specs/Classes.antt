@@ -1,0 +1,153 @@
+-- The classes of document 01, line by line and in its order: which texts stand in each, and what may follow them there.
+-- Assumes nothing.
+use mathlib.Core.List.{List, [], _∷_}
+use Rattle.keywords.specs.Words.{Entry, entry}
+use Rattle.grammar.specs.Form.{Set, none, D, H, S, C, blank, control, byte, no, _or_, any, _except_, oneOf, Form, never, one, _·_, _∣_, _but_}
+use Rattle.grammar.specs.Form.{many, text, lit, run, some, opt, through, without}
+
+pub data Class : Type 0 where
+  -- legal
+  blankRun lineComment blockComment operator string quotedName integer float blob parameter word illegal : Class
+  -- malformed
+  unrecognized bang openQuote openBlob oddBlob badParameter : Class
+  underscore wordAfterInteger wordAfterFraction noExponent wordAfterExponent : Class
+  noHexdigit underscoreAfterX hexUnderscore wordAfterHex : Class
+
+-- a form of a class, and the bytes that may follow it there; the end of the text always may
+pub record Rule : Type 0 where
+  pub class : Class
+  pub form : Form
+  pub next : Set
+
+infix 70 _is_
+abbrev pub _is_ : Class → Form → Rule
+c is f = record { class = c; form = f; next = any }
+
+infix 70 _is_before_
+abbrev pub _is_before_ : Class → Form → Set → Rule
+c is f before t = record { class = c; form = f; next = t }
+
+-- Dig = D+ ( `_` D+ )*
+abbrev pub dig : Form
+dig = some D · many (lit "_" · some D)
+
+abbrev pub e : Form
+e = one (oneOf "eE")
+
+abbrev pub sign : Form
+sign = opt (one (oneOf "+-"))
+
+-- Exp = `e` or `E`, optional sign, optional `_`, Dig
+abbrev pub exp : Form
+exp = e · sign · opt (lit "_") · dig
+
+abbrev pub zeroX : Form
+zeroX = lit "0" · one (oneOf "xX")
+
+-- `0x` or `0X` H+ ( `_` H+ )*
+abbrev pub hexInteger : Form
+hexInteger = zeroX · some H · many (lit "_" · some H)
+
+-- a quote and a body in which that quote appears only doubled
+abbrev pub opened : Set → Form
+opened q = one q · many (one (no q) ∣ one q · one q)
+
+abbrev pub x : Form
+x = one (oneOf "xX")
+
+-- C bytes and `::` pairs
+abbrev pub pieces : Form
+pieces = many (one C ∣ lit "::")
+
+abbrev pub pairs : Form
+pairs = many (lit "::")
+
+-- `$`, `@` or `:` and the run of a name: C bytes and pairs with at least one C, after `:` beginning with S or a pair
+abbrev pub named : Form
+named = one (oneOf "$@") · (pieces but pairs) ∣ lit ":" · ((one S ∣ lit "::") · pieces but pairs)
+
+-- `(` and bytes that are neither `)` nor blank
+abbrev pub paren : Form
+paren = lit "(" · run (no (oneOf ")" or blank))
+
+-- a number up to its `e`: Dig, Dig `.`, Dig `.` Dig or `.` Dig
+abbrev pub front : Form
+front = dig ∣ dig · lit "." ∣ dig · lit "." · dig ∣ lit "." · dig
+
+-- a number that ends in a Dig
+abbrev pub inDig : Form
+inDig = dig ∣ dig · lit "." · dig ∣ lit "." · dig ∣ front · exp
+
+-- a byte that starts nothing else: controls but blanks, `\ ^ { }`, 7F
+abbrev pub U : Set
+U = control except blank or oneOf "\\^{}" or byte 0x7F
+
+unfoldable pub operators : List Entry
+operators =
+    entry "(" "TK_LP" ∷ entry ")" "TK_RP" ∷ entry ";" "TK_SEMI" ∷ entry "+" "TK_PLUS" ∷ entry "*" "TK_STAR" ∷
+    entry "%" "TK_REM" ∷ entry "," "TK_COMMA" ∷ entry "~" "TK_BITNOT" ∷ entry "[" "TK_LBRACKET" ∷ entry "]" "TK_RBRACKET" ∷
+    entry "-" "TK_MINUS" ∷ entry "/" "TK_SLASH" ∷ entry "<" "TK_LT" ∷ entry ">" "TK_GT" ∷ entry "|" "TK_BITOR" ∷
+    entry "&" "TK_BITAND" ∷ entry "." "TK_DOT" ∷ entry ":" "TK_COLON" ∷ entry "=" "TK_EQ" ∷
+    entry "->" "TK_PTR" ∷ entry "->>" "TK_PTR" ∷ entry "==" "TK_EQ" ∷ entry "<=" "TK_LE" ∷ entry "<<" "TK_LSHIFT" ∷
+    entry "<>" "TK_NE" ∷ entry ">=" "TK_GE" ∷ entry ">>" "TK_RSHIFT" ∷ entry "!=" "TK_NE" ∷ entry "||" "TK_CONCAT" ∷
+    entry "&&" "TK_ARRAY_OVERLAP" ∷ entry "@>" "TK_ARRAY_CONTAINS" ∷
+    []
+
+-- a word of a list
+abbrev pub among : List Entry → Form
+among [] = never
+among (o ∷ os) = text (o .word) ∣ among os
+
+-- Each comment has the line of document 01 for the rules below it. A rule without `before` says nothing of what follows.
+unfoldable pub rules : List Rule
+rules =
+    -- Legal. Blank run; `--` to and with the next 0A or to the end; `/*` to and with the next `*/` that begins after these two
+    -- bytes, or to the end.
+    blankRun is some blank ∷
+    lineComment is lit "--" · through "\n" ∷
+    lineComment is lit "--" · without "\n" before none ∷
+    blockComment is lit "/*" · through "*/" ∷
+    blockComment is lit "/*" · without "*/" before none ∷
+    -- Operators.
+    operator is among operators ∷
+    -- `'` body `'`; with `"` or a backtick a name. In the body that quote appears only doubled.
+    string is opened (oneOf "'") · lit "'" ∷
+    quotedName is opened (oneOf "\"") · lit "\"" ∣ opened (oneOf "`") · lit "`" ∷
+    -- Integer: Dig; `0x` or `0X` H+ ( `_` H+ )*.
+    integer is dig ∣ hexInteger ∷
+    -- Float: Dig `.`; Dig `.` Exp; Dig `.` Dig with or without Exp; Dig Exp; `.` Dig with or without Exp.
+    float is dig · lit "." ∣ dig · lit "." · exp ∣ dig · lit "." · dig · opt exp ∣ dig · exp ∣ lit "." · dig · opt exp ∷
+    -- Blob: `x` or `X`, `'`, an even number of H, `'`.
+    blob is x · lit "'" · many (one H · one H) · lit "'" ∷
+    -- Parameter: `?` D*; `$`, `@` or `:` and a name, which ends in at most one `(`...`)` holding no `)` and no blank.
+    parameter is lit "?" · run D ∣ named · opt (paren · lit ")") ∷
+    -- Word: S C*.
+    word is one S · run C ∷
+    -- `#` C*: a token of kind TK_ILLEGAL.
+    illegal is lit "#" · run C ∷
+    -- Malformed. U: a byte that starts nothing above or below, on to the next blank or the end.
+    unrecognized is one U · run (no blank) before blank ∷
+    -- `!` alone. A quote and body never closed.
+    bang is lit "!" ∷
+    openQuote is opened (oneOf "'") ∣ opened (oneOf "\"") ∣ opened (oneOf "`") before none ∷
+    -- `x'` H* with no quote after it. Odd number of H, closed.
+    openBlob is x · lit "'" · run H before no (oneOf "'") ∷
+    oddBlob is x · lit "'" · one H · many (one H · one H) · lit "'" ∷
+    -- `$`, `@` alone or with pairs only; `:` with one or more pairs only; a name whose `(` part meets a blank or the end.
+    badParameter is one (oneOf "$@") · pairs ∣ lit ":" · lit "::" · pairs ∷
+    badParameter is named · paren before blank ∷
+    -- `_` after a Dig (or after `e` and sign) with no D next.
+    underscore is (inDig ∣ front · e · sign) · lit "_" before no D ∷
+    -- Dig and an S that isn't `_`, `e`, `E`, nor `x`/`X` after a lone 0. `.` Dig (or Dig `.` Dig) and such an S (`x` included).
+    wordAfterInteger is dig · one (S except oneOf "_eE") but zeroX ∷
+    wordAfterFraction is (lit "." · dig ∣ dig · lit "." · dig) · one (S except oneOf "_eE") ∷
+    -- `e` and sign with neither D nor `_` next. An Exp and an S other than `_`.
+    noExponent is front · e · sign before no (D or oneOf "_") ∷
+    wordAfterExponent is front · exp · one (S except oneOf "_") ∷
+    -- `0x` with neither H nor `_` next. `0x_`. An `_` after a hex integer without H next. Hex integer and an S that is neither
+    -- H nor `_`.
+    noHexdigit is zeroX before no (H or oneOf "_") ∷
+    underscoreAfterX is zeroX · lit "_" ∷
+    hexUnderscore is hexInteger · lit "_" before no H ∷
+    wordAfterHex is hexInteger · one (S except (H or oneOf "_")) ∷
+    []

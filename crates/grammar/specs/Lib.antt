@@ -1,0 +1,5 @@
+pub mod Form
+pub mod Classes
+pub mod Answers
+pub mod Longest
+pub mod Texts
