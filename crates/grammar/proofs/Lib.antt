@@ -10,3 +10,5 @@ pub mod Unique
 pub mod Lexemes
 pub mod Theorems
 pub mod Unknown
+pub mod Equal
+pub mod PageLaws

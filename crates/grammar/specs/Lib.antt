@@ -3,3 +3,4 @@ pub mod Classes
 pub mod Answers
 pub mod Longest
 pub mod Texts
+pub mod Pages
