@@ -1,0 +1,1 @@
+// No code: the fixed list, tried on the definitions of the crate grammar.
