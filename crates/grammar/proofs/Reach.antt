@@ -6,8 +6,8 @@ use mathlib.Core.Path.{_≡_, sym, subst}
 use mathlib.Core.Bool.{Bool, true, false, cond, _&&_, true≢false}
 use mathlib.Core.List.{List, [], _∷_, _++_}
 use mathlib.Core.Logic.{inl, inr}
-use lib.Dec.{eqb}
-use lib.ListN.{getD}
+use lib.Dec.{eqb, ltb}
+use lib.ListN.{length, getD}
 use borrow.Author.Tests.{eqb-true, eqb-false}
 use Rattle.keywords.proofs.Logic.{split, and-left, and-right, every}
 use Rattle.grammar.specs.Longest.{Some}
@@ -59,7 +59,9 @@ addSteps (suc b) q l = addSteps b q (add (step b q) l)
 -- those behind the states from the k-th on, n of them
 abbrev explore : ℕ → ℕ → List Seen → List Seen
 explore zero k l = l
-explore (suc n) k l = explore n (suc k) (addSteps 129 (getD l k (record { at = 0; state = [] }) .state) l)
+explore (suc n) k l =
+    let more = explore n (suc k) (addSteps 129 (getD l k (record { at = 0; state = [] }) .state) l) in
+    cond (ltb k (length l)) more l
 
 -- n states that can be reached, and all those one step behind them
 abbrev pub seen : ℕ → State → List Seen
