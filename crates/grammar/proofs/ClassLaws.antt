@@ -14,7 +14,7 @@ use Rattle.grammar.specs.Classes.{word, illegal, unrecognized, bang, ope
 use Rattle.grammar.specs.Classes.{wordAfterFraction, noExponent, wordAfterExponent, noHexdigit, underscoreAfterX, hexUnderscore, wordAfterHex}
 use Rattle.grammar.specs.Classes.{Rule, _is_, _is_before_}
 use Rattle.grammar.specs.Longest.{Some, Follows, Stands}
-use Rattle.grammar.proofs.Tests.{both, one-of, no-left}
+use Rattle.grammar.proofs.Equivalences.{both, one-of, no-left}
 
 -- in document 01's order
 abbrev number : Class → ℕ
@@ -85,7 +85,7 @@ one-rule rs c f e s n = Iff·trans (stands-only rs c s n) (subst (λ (l : List R
     take : Opens f s n → Stands ((c is f) ∷ []) c s n
     take (l, h) = (l, inl (refl, h, any-follows (drop n s)))
 
--- a class that ends in a certain way, or at the end of the text
+-- a class of two rules: one says nothing of what follows, the other lets only the end follow
 pub or-at-end : (rs : List Rule) (c : Class) (f g : Form) → only c rs ≡ (c is f) ∷ (c is g before none) ∷ [] → (s : List ℕ) (n : ℕ)
     → Stands rs c s n ↔ (Opens f s n ⊎ (Opens g s n × (drop n s ≡ [])))
 or-at-end rs c f g e s n =

@@ -18,7 +18,7 @@ abbrev unmet : List ℕ → Bool
 unmet [] = true
 unmet (k ∷ l) = false
 
--- no text has the form: it is met in none of at most n states
+-- no text has the form: it is met in no state, and following n of them finds them all
 abbrev pub isVoid : ℕ → Form → Bool
 isVoid n f = reaches n (λ q. unmet (met q)) (alone f)
 

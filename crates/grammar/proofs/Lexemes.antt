@@ -15,7 +15,7 @@ use Rattle.keywords.proofs.Logic.{split, and-left, and-right, every, every-at}
 use Rattle.grammar.specs.Form.{holds, Has}
 use Rattle.grammar.specs.Classes.{Class, Rule}
 use Rattle.grammar.specs.Longest.{Some, Follows, Stands, Longest, anywhere, Lexeme, Gives}
-use Rattle.grammar.proofs.Tests.{or-iff, some-every}
+use Rattle.grammar.proofs.Equivalences.{or-iff, some-every}
 use Rattle.grammar.proofs.States.{State, ruleAt, start, step, after, met, Met, met-rule}
 use Rattle.grammar.proofs.Model.{Found, nothing, found, scan, given, next, Right, scan-right}
 use Rattle.grammar.proofs.High.{plainSet, low, low-set, low-step, low-small}
@@ -33,18 +33,18 @@ once (k ∷ []) = true
 once (k ∷ j ∷ l) = false
 
 -- where a rule is met that b may not follow, b leads on to a rule that is met
-abbrev onward : List Rule → ℕ → State → Bool
-onward rs b q = let more = some? (met (step b q)) in every (λ k. holds (ruleAt rs k .next) b || more) (met q)
+abbrev leadsOn : List Rule → ℕ → State → Bool
+leadsOn rs b q = let more = some? (met (step b q)) in every (λ k. holds (ruleAt rs k .next) b || more) (met q)
 
 -- at most one rule is met, and what follows it needs no look
-abbrev sound : List Rule → State → Bool
-sound rs q = once (met q) && below 129 (λ b. onward rs b q)
+abbrev isSound : List Rule → State → Bool
+isSound rs q = once (met q) && below 129 (λ b. leadsOn rs b q)
 
--- What is computed of a list of rules: the test passes in each state that can be reached, of which there are at most `limit`; no
--- byte above 7F is named; no lexeme is empty; and every byte begins one.
+-- What is computed of a list of rules: the test passes in each state that can be reached, and following `limit` of them finds them
+-- all; no byte above 7F is named; no lexeme is empty; and every byte begins one.
 pub record Sound (rs : List Rule) : Type 0 where
   pub limit : ℕ
-  pub states : reaches limit (sound rs) (start rs) ≡ true
+  pub states : reaches limit (isSound rs) (start rs) ≡ true
   pub next : every (λ r. plainSet (r .next)) rs ≡ true
   pub empty : met (start rs) ≡ []
   pub bytes : below 129 (λ b. some? (met (step b (start rs)))) ≡ true
@@ -84,21 +84,21 @@ module _ (rs : List Rule) (ok : Sound rs) where
   abbrev Q : List ℕ → State
   Q w = after (start rs) w
 
-  sound-at : (w : List ℕ) → sound rs (Q w) ≡ true
-  sound-at w = always (ok .limit) (sound rs) (start rs) (ok .states) w .1
+  sound-at : (w : List ℕ) → isSound rs (Q w) ≡ true
+  sound-at w = always (ok .limit) (isSound rs) (start rs) (ok .states) w .1
 
   pub low-at : (b : ℕ) (w : List ℕ) → step (low b) (Q w) ≡ step b (Q w)
-  low-at b w = low-step b (Q w) (always (ok .limit) (sound rs) (start rs) (ok .states) w .0)
+  low-at b w = low-step b (Q w) (always (ok .limit) (isSound rs) (start rs) (ok .states) w .0)
 
   -- no text has the forms of two rules
   pub disjoint : (w : List ℕ) (j k : ℕ) → Met j (Q w) → Met k (Q w) → j ≡ k
   disjoint w j k g h =
-      once-eq (met (Q w)) (and-left (once (met (Q w))) (below 129 (λ b. onward rs b (Q w))) (sound-at w)) j k g h
+      once-eq (met (Q w)) (and-left (once (met (Q w))) (below 129 (λ b. leadsOn rs b (Q w))) (sound-at w)) j k g h
 
   -- where a rule is met, and no rule is behind the next byte, that byte may follow
   may-follow : (w : List ℕ) (k b : ℕ) → k < length rs → Met k (Q w) → met (step b (Q w)) ≡ [] → holds (ruleAt rs k .next) b ≡ true
   may-follow w k b l h n =
-      let t = below-at (λ b. onward rs b (Q w)) 129 (and-right (once (met (Q w))) (below 129 (λ b. onward rs b (Q w))) (sound-at w)) (low b) (low-small b) in
+      let t = below-at (λ b. leadsOn rs b (Q w)) 129 (and-right (once (met (Q w))) (below 129 (λ b. leadsOn rs b (Q w))) (sound-at w)) (low b) (low-small b) in
       let (j, d, f) = some-every (λ k. holds (ruleAt rs k .next) (low b) || some? (met (step (low b) (Q w)))) (λ j. j ≡ k) (met (Q w)) t h in
       let e = subst (λ (k : ℕ). holds (ruleAt rs k .next) (low b) || some? (met (step (low b) (Q w))) ≡ true) d f in
       let p = every-at (λ r. plainSet (r .next)) rs (ruleAt [] 0) k l (ok .next) in

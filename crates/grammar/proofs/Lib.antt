@@ -1,4 +1,4 @@
-pub mod Tests
+pub mod Equivalences
 pub mod Rest
 pub mod States
 pub mod Model
@@ -9,6 +9,6 @@ pub mod ClassLaws
 pub mod Unique
 pub mod Lexemes
 pub mod Theorems
-pub mod Unknown
+pub mod Unrecognized
 pub mod Equal
 pub mod PageLaws

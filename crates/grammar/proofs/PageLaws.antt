@@ -11,17 +11,21 @@ use Rattle.grammar.specs.Form.{none, Form, anything, _·_, _∣_, _but_,
 use Rattle.grammar.specs.Classes.{Class, lineComment, blockComment, string, integer, float, blob, parameter, oddBlob, _is_, _is_before_, rules}
 use Rattle.grammar.specs.Longest.{Stands}
 use Rattle.grammar.specs.Pages
-use Rattle.grammar.proofs.Tests.{both, one-of}
+use Rattle.grammar.proofs.Equivalences.{both, one-of}
 use Rattle.grammar.proofs.States.{ruleAt}
 use Rattle.grammar.proofs.Equal.{isEqual, void, within, equal}
 use Rattle.grammar.proofs.ClassLaws.{only, Opens, one-rule, or-at-end}
 
--- the form of a class's first rule, or of another of its rules
+-- the form of a class's i-th rule, from 0, and of its first
 abbrev formAt : Class → ℕ → Form
 formAt c i = ruleAt (only c rules) i .form
 
 abbrev formOf : Class → Form
 formOf c = formAt c 0
+
+-- following so many states finds them all in each comparison below
+abbrev enough : ℕ
+enough = 60
 
 -- the class has one rule, which says nothing of what follows
 abbrev Single : Class → Type 0
@@ -30,8 +34,8 @@ Single c = only c rules ≡ (c is formOf c) ∷ []
 opens : (f g : Form) → ((w : List ℕ) → Has f w ↔ Has g w) → (s : List ℕ) (n : ℕ) → Opens f s n ↔ Opens g s n
 opens f g e s n = both Iff·rfl (e (take n s))
 
-same : (c : Class) (f : Form) → Single c → isEqual 60 (formOf c) f ≡ true → (s : List ℕ) (n : ℕ) → Stands rules c s n ↔ Opens f s n
-same c f r e s n = Iff·trans (one-rule rules c (formOf c) r s n) (opens (formOf c) f (equal 60 (formOf c) f e) s n)
+same : (c : Class) (f : Form) → Single c → isEqual enough (formOf c) f ≡ true → (s : List ℕ) (n : ℕ) → Stands rules c s n ↔ Opens f s n
+same c f r e s n = Iff·trans (one-rule rules c (formOf c) r s n) (opens (formOf c) f (equal enough (formOf c) f e) s n)
 
 -- A string is the page's string literal.
 pub string-page : (s : List ℕ) (n : ℕ) → Stands rules string s n ↔ Opens Pages.string s n
@@ -43,7 +47,7 @@ pub blob-page : (s : List ℕ) (n : ℕ) → (Stands rules blob s n ⊎ Stands r
 unfolding rules isDigit isHexdigit
 blob-page s n =
     Iff·trans (one-of (one-rule rules blob (formOf blob) refl s n) (one-rule rules oddBlob (formOf oddBlob) refl s n))
-    (Iff·trans (make, take) (opens (formOf blob ∣ formOf oddBlob) Pages.blob (equal 60 (formOf blob ∣ formOf oddBlob) Pages.blob refl) s n))
+    (Iff·trans (make, take) (opens (formOf blob ∣ formOf oddBlob) Pages.blob (equal enough (formOf blob ∣ formOf oddBlob) Pages.blob refl) s n))
   where
     make : Opens (formOf blob) s n ⊎ Opens (formOf oddBlob) s n → Opens (formOf blob ∣ formOf oddBlob) s n
     make (inl (l, h)) = (l, inl h)
@@ -57,11 +61,11 @@ blob-page s n =
 abbrev pub IsWithoutUnderscore : Class → Form → Type 0
 IsWithoutUnderscore c f = (s : List ℕ) (n : ℕ) → (Stands rules c s n × Has (without "_") (take n s)) ↔ Opens f s n
 
-without-underscore : (c : Class) (f : Form) → Single c → isEqual 60 (formOf c but anything · lit "_" · anything) f ≡ true → IsWithoutUnderscore c f
+without-underscore : (c : Class) (f : Form) → Single c → isEqual enough (formOf c but anything · lit "_" · anything) f ≡ true → IsWithoutUnderscore c f
 without-underscore c f r e s n =
     Iff·trans (both (one-rule rules c (formOf c) r s n) Iff·rfl)
     (Iff·trans (λ h. (h .0 .0, (h .0 .1, h .1 .1)), λ h. ((h .0, h .1 .0), (tt, h .1 .1)))
-    (opens (formOf c but anything · lit "_" · anything) f (equal 60 (formOf c but anything · lit "_" · anything) f e) s n))
+    (opens (formOf c but anything · lit "_" · anything) f (equal enough (formOf c but anything · lit "_" · anything) f e) s n))
 
 -- Integers and floats without `_` are the numeric literals of the page's diagram, integer and floating point ones.
 pub integer-page : IsWithoutUnderscore integer Pages.integer
@@ -72,18 +76,18 @@ pub float-page : IsWithoutUnderscore float Pages.floatingPoint
 unfolding rules isDigit isHexdigit
 float-page = without-underscore float Pages.floatingPoint refl refl
 
--- a comment ends as it should, or at the end of input
+-- the class's texts are those of f, and those of g where the text ends behind them
 abbrev pub IsToEnd : Class → Form → Form → Type 0
 IsToEnd c f g = (s : List ℕ) (n : ℕ) → Stands rules c s n ↔ (Opens f s n ⊎ (Opens g s n × (drop n s ≡ [])))
 
 to-end : (c : Class) (f g : Form) → only c rules ≡ (c is formAt c 0) ∷ (c is formAt c 1 before none) ∷ []
-    → isEqual 60 (formAt c 0) f && isEqual 60 (formAt c 1) g ≡ true → IsToEnd c f g
+    → isEqual enough (formAt c 0) f && isEqual enough (formAt c 1) g ≡ true → IsToEnd c f g
 to-end c f g r e s n =
-    let a = isEqual 60 (formAt c 0) f in
-    let b = isEqual 60 (formAt c 1) g in
+    let a = isEqual enough (formAt c 0) f in
+    let b = isEqual enough (formAt c 1) g in
     Iff·trans (or-at-end rules c (formAt c 0) (formAt c 1) r s n)
-    (one-of (opens (formAt c 0) f (equal 60 (formAt c 0) f (and-left a b e)) s n)
-    (both (opens (formAt c 1) g (equal 60 (formAt c 1) g (and-right a b e)) s n) Iff·rfl))
+    (one-of (opens (formAt c 0) f (equal enough (formAt c 0) f (and-left a b e)) s n)
+    (both (opens (formAt c 1) g (equal enough (formAt c 1) g (and-right a b e)) s n) Iff·rfl))
 
 -- Comments are the page's.
 pub line-comment-page : IsToEnd lineComment Pages.lineComment Pages.lineToEnd
@@ -101,8 +105,8 @@ parameter-page = same parameter (Pages.parameter but Pages.otherSuffix ∣ Pages
 
 pub left-out : (w : List ℕ) → Has Pages.otherSuffix w → Has Pages.parameter w
 unfolding isDigit isIdentifierStart isIdentifierContinue isBlank
-left-out = within 60 Pages.otherSuffix Pages.parameter refl
+left-out = within enough Pages.otherSuffix Pages.parameter refl
 
 pub not-on-page : (w : List ℕ) → Has Pages.added w → Has Pages.parameter w → ⊥
 unfolding isDigit isIdentifierStart isIdentifierContinue isBlank
-not-on-page w h k = void 60 (Pages.added but (anything but Pages.parameter)) refl w (h, λ n. n .1 k)
+not-on-page w h k = void enough (Pages.added but (anything but Pages.parameter)) refl w (h, λ n. n .1 k)

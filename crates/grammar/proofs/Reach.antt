@@ -11,7 +11,7 @@ use lib.ListN.{length, getD}
 use borrow.Author.Tests.{eqb-true, eqb-false}
 use Rattle.keywords.proofs.Logic.{split, and-left, and-right, every}
 use Rattle.grammar.specs.Longest.{Some}
-use Rattle.grammar.proofs.Tests.{some-every}
+use Rattle.grammar.proofs.Equivalences.{some-every}
 use Rattle.grammar.proofs.States.{State, step, after}
 use Rattle.grammar.proofs.High.{plain, low, low-step, low-small}
 use Rattle.grammar.proofs.Alike.{alike, alike-eq, key}
@@ -41,7 +41,7 @@ below-at p (suc n) e k h =
     (λ d. subst (λ (i : ℕ). p i ≡ true) (sym (eqb-true k n d)) (and-left (p n) (below n p) e))
     (λ d. let o = eqb-false k n d in below-at p n (and-right (p n) (below n p) e) k (omega arith))
 
--- behind each byte the state is one of those seen
+-- behind each byte the state is one of those seen (129: the bytes to 7F, and 80, which stands for those above)
 abbrev stays : List Seen → State → Bool
 stays l q = below 129 (λ b. let r = step b q in isAmong (key r) r l)
 
@@ -63,7 +63,7 @@ explore (suc n) k l =
     let more = explore n (suc k) (addSteps 129 (getD l k (record { at = 0; state = [] }) .state) l) in
     cond (ltb k (length l)) more l
 
--- n states that can be reached, and all those one step behind them
+-- the states found by following the first n, each with every byte
 abbrev pub seen : ℕ → State → List Seen
 seen n q = explore n 0 (add q [])
 
@@ -84,7 +84,7 @@ fine p l q = every plain q && stays l q && p q
 abbrev holdsIn : (State → Bool) → State → List Seen → Bool
 holdsIn p q l = isAmong (key q) q l && every (λ x. fine p l (x .state)) l
 
--- the test passes in each of at most n states that can be reached from q
+-- the test passes in each state that can be reached from q, and following n of them finds them all
 abbrev pub reaches : ℕ → (State → Bool) → State → Bool
 reaches n p q = holdsIn p q (seen n q)
 

@@ -5,7 +5,7 @@ use mathlib.Core.Bool.{Bool, true, false, not, cond, _&&_, _||_, true≢false}
 use mathlib.Core.List.{List, [], _∷_, _++_, nil≢cons, cons≢nil, head-eq-of-cons-eq, tail-eq-of-cons-eq}
 use mathlib.Core.Logic.{_↔_, _⊎_, inl, inr, Iff·rfl, Iff·trans}
 use Rattle.keywords.proofs.Logic.{split}
-use Rattle.grammar.proofs.Tests.{and-iff, or-iff, not-iff, both, one-of, contrary, no-left, no-right}
+use Rattle.grammar.proofs.Equivalences.{and-iff, or-iff, not-iff, both, one-of, contrary, no-left, no-right}
 use Rattle.grammar.specs.Form.{Set, holds, Form, never, empty, anything, one, _·_, _∣_, _but_, many, Single, Many, stop, more, Has}
 
 -- the empty text has the form
@@ -107,7 +107,7 @@ less-has isEmpty g w = minus-has empty (view g) w
 less-has isAnything g w = minus-has anything (view g) w
 less-has (other f) g w = minus-has f (view g) w
 
--- a text of two parts that is empty, or begins with b
+-- both parts of an empty text are empty
 empty-parts : (u v : List ℕ) → [] ≡ u ++ v → (u ≡ []) × (v ≡ [])
 empty-parts [] v e = (refl, sym e)
 empty-parts (x ∷ u) v e = absurd (nil≢cons e)

@@ -12,7 +12,7 @@ use Rattle.keywords.proofs.Logic.{split}
 use Rattle.grammar.specs.Form.{Form, never, empty, anything, Has}
 use Rattle.grammar.specs.Classes.{Rule, _is_, blankRun}
 use Rattle.grammar.specs.Longest.{Some}
-use Rattle.grammar.proofs.Tests.{one-of, no-left}
+use Rattle.grammar.proofs.Equivalences.{one-of, no-left}
 use Rattle.grammar.proofs.Rest.{nullable, View, isNever, isEmpty, isAnything, other, view, rest, null-has, rest-has}
 
 pub record Left : Type 0 where

@@ -20,7 +20,7 @@ use Rattle.grammar.proofs.Model.{next}
 use Rattle.grammar.proofs.Unique.{longest-unique, gives-unique}
 use Rattle.grammar.proofs.Lexemes
 
--- The computed test of all rules together. Texts lead to 61 states.
+-- The computed test of all rules together.
 pub sound : Lexemes.Sound rules
 unfolding rules operators isDigit isHexdigit isIdentifierStart isIdentifierContinue isBlank
 sound = record { limit = 100; states = refl; next = refl; empty = refl; bytes = refl }
@@ -79,7 +79,8 @@ texts = every-row table computed
     every-row [] e = tt
     every-row (r ∷ l) e = (walk-walks (r .text) (r .answers) 0 (head-eq-of-cons-eq e), every-row l (tail-eq-of-cons-eq e))
 
--- A misspelt name would be a number out of range: none that the table or the operators have is. (The table has a row for each class.)
+-- A misspelt name would have a number out of range: no name in the table or among the operators has. The table has a row for each
+-- class.
 abbrev known : Answer → Bool
 known (token k start n next) = ltb k (length kindNames)
 known (end at) = true

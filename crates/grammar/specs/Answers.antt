@@ -41,7 +41,7 @@ refused name at from n = refusal (refusalNumber name) (at + from) n at
 abbrev pub whole : String → ℕ → List ℕ → Answer
 whole name at w = refused name at 0 (length w)
 
--- where the first byte of a set stands in w; and the place after the last one, 0 where there is none
+-- where the first byte of a set stands in w, its length where there is none; and the place after the last one, 0 where there is none
 abbrev pub first : Set → List ℕ → ℕ
 first s [] = 0
 first s (b ∷ w) = cond (holds s b) 0 (suc (first s w))

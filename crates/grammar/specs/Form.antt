@@ -11,7 +11,7 @@ use lib.Dec.{eqb, leb}
 use Rattle.keywords.specs.Text.{bytes}
 use Rattle.words.specs.Bytes.{isDigit, isHexdigit, isIdentifierStart, isIdentifierContinue, isBlank}
 
--- D digit, H hexadecimal digit, S identifier start, C identifier continue, and what is made of them
+-- D digit, H hexadecimal digit, S identifier start, C identifier continue, control 00 to 1F, and what is made of them
 infixr 95 _or_
 pub data Set : Type 0 where
   none D H S C blank control : Set
@@ -57,7 +57,7 @@ Single s [] = ⊥
 Single s (b ∷ []) = holds s b ≡ true
 Single s (b ∷ c ∷ w) = ⊥
 
--- some texts of P, one behind the other
+-- any number of texts of P, one behind the other
 pub data Many (P : List ℕ → Type 0) : List ℕ → Type 0 where
   stop : Many P []
   more : {u v w : List ℕ} → w ≡ u ++ v → P u → Many P v → Many P w
@@ -81,7 +81,7 @@ text (b ∷ w) = one (byte b) · text w
 abbrev pub lit : String → Form
 lit t = text (bytes t)
 
--- any number of bytes of a set, at least one, and at most one form
+-- any number of bytes of a set; at least one; a form or nothing
 abbrev pub run : Set → Form
 run s = many (one s)
 
@@ -91,7 +91,7 @@ some s = one s · run s
 abbrev pub opt : Form → Form
 opt f = empty ∣ f
 
--- to and with the next t: it ends in t, and no part of it that is shorter does
+-- to and with the next t: it ends in t, and no shorter opening of it does
 abbrev pub through : String → Form
 through t = anything · lit t but anything · lit t · one any · anything
 

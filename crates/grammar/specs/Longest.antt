@@ -27,7 +27,7 @@ Stands rs c s n = (n ≤ length s) × Some (λ r. (r .class ≡ c) × Has (r .fo
 abbrev pub anywhere : List Rule → List Rule
 anywhere rs = map (λ r. r .class is r .form) rs
 
--- they do; no more bytes stand in any class; and as many stand in no other
+-- the first n bytes of s stand in c; no more bytes than these stand in any class; and these stand in no other
 pub record Longest (rs : List Rule) (s : List ℕ) (c : Class) (n : ℕ) : Type 0 where
   pub stands : Stands rs c s n
   pub longest : (d : Class) (m : ℕ) → Stands rs d s m → m ≤ n

@@ -1,5 +1,5 @@
--- Answers of the published lexer, made from oracle/answers.vec by tools/trial: a text in hexadecimal, an offset, and what Next,
--- walked from there, gives. Assumes nothing.
+-- Answers of the published lexer (OffsetPastEnd added), made from oracle/answers.vec by tools/trial: a text in hexadecimal, an
+-- offset, and what Next, walked from there, gives. Assumes nothing.
 use Prim.Native.Nat.{ℕ, _+_, _*_, _-_}
 use Prim.Native.Char.{Char, code}
 use Prim.Native.String

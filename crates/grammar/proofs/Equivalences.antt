@@ -33,7 +33,7 @@ no-left n = (inr, ⊎-elim (λ a. absurd (n a)) (λ b. b))
 pub no-right : {A B : Type 0} → (B → ⊥) → A ↔ (A ⊎ B)
 no-right n = (inl, ⊎-elim (λ a. a) (λ b. absurd (n b)))
 
--- of the entries that pass a test, some entry is one
+-- if every entry passes a test and some entry has P, that entry has both
 pub some-every : {A : Type 0} (p : A → Bool) (P : A → Type 0) (l : List A) → every p l ≡ true → Some P l → (x : A) × P x × (p x ≡ true)
 some-every p P [] e h = absurd h
 some-every p P (x ∷ l) e (inl h) = (x, h, and-left (p x) (every p l) e)

@@ -13,7 +13,7 @@ use Rattle.words.specs.Bytes.{isDigit, isHexdigit, isIdentifierStart, isIdentif
 use Rattle.grammar.specs.Form.{Set, holds, blank, no, Form, one, _·_, Has, run}
 use Rattle.grammar.specs.Classes.{Class, unrecognized, _is_before_, U, operators, rules}
 use Rattle.grammar.specs.Longest.{Some, Stands}
-use Rattle.grammar.proofs.Tests.{or-iff, not-iff, some-every}
+use Rattle.grammar.proofs.Equivalences.{or-iff, not-iff, some-every}
 use Rattle.grammar.proofs.States.{Left, State, ruleAt, start, step, after-in}
 use Rattle.grammar.proofs.High.{low, low-set, low-small}
 use Rattle.grammar.proofs.Reach.{below, below-at}
@@ -24,7 +24,7 @@ use Rattle.grammar.proofs.Theorems.{sound, exists}
 abbrev isPlace14 : Left → Bool
 isPlace14 x = eqb (x .place) 14
 
--- behind a byte of U only the rule of class unrecognized is left, the 14th from 0
+-- behind a byte of U only the rule of class unrecognized is left, at place 14, counted from 0
 isAlone : ℕ → Bool
 isAlone b = not (holds U b) || every isPlace14 (step b (start rules))
 
