@@ -1,5 +1,5 @@
 -- The rules of one class. Assumes nothing.
-use Prim.Native.Nat.{ℕ, _≤_}
+use Prim.Native.Nat.{ℕ, suc, _≤_}
 use mathlib.Core.Path.{_≡_, refl, sym, ap, subst}
 use mathlib.Core.Bool.{cond, true≢false}
 use mathlib.Core.List.{List, [], _∷_, cons≢nil}
@@ -13,11 +13,11 @@ use Rattle.grammar.specs.Classes.{Class, blankRun, lineComment, blockCom
 use Rattle.grammar.specs.Classes.{word, illegal, unrecognized, bang, openQuote, openBlob, oddBlob, badParameter, underscore, wordAfterInteger}
 use Rattle.grammar.specs.Classes.{wordAfterFraction, noExponent, wordAfterExponent, noHexdigit, underscoreAfterX, hexUnderscore, wordAfterHex}
 use Rattle.grammar.specs.Classes.{Rule, _is_, _is_before_}
-use Rattle.grammar.specs.Longest.{Some, Follows, Stands}
+use Rattle.grammar.specs.Longest.{Some, Follows, Stands, Opens}
 use Rattle.grammar.proofs.Equivalences.{both, one-of, no-left}
 
 -- in document 01's order
-abbrev number : Class → ℕ
+abbrev pub number : Class → ℕ
 number blankRun = 0
 number lineComment = 1
 number blockComment = 2
@@ -46,12 +46,17 @@ number underscoreAfterX = 24
 number hexUnderscore = 25
 number wordAfterHex = 26
 
+-- the place of the first rule of class c
+abbrev pub placeOf : Class → List Rule → ℕ
+placeOf c [] = 0
+placeOf c (r ∷ rs) = cond (eqb (number (r .class)) (number c)) 0 (suc (placeOf c rs))
+
 -- the rules of class c
 abbrev pub only : Class → List Rule → List Rule
 only c [] = []
 only c (r ∷ rs) = cond (eqb (number (r .class)) (number c)) (r ∷ only c rs) (only c rs)
 
-pub stands-only : (rs : List Rule) (c : Class) (s : List ℕ) (n : ℕ) → Stands rs c s n ↔ Stands (only c rs) c s n
+stands-only : (rs : List Rule) (c : Class) (s : List ℕ) (n : ℕ) → Stands rs c s n ↔ Stands (only c rs) c s n
 stands-only rs c s n = both Iff·rfl (some rs)
   where
     some : (l : List Rule) → Some (λ r. (r .class ≡ c) × Has (r .form) (take n s) × Follows (r .next) (drop n s)) l
@@ -61,10 +66,6 @@ stands-only rs c s n = both Iff·rfl (some rs)
         split (eqb (number (r .class)) (number c))
         (λ e. rw e (one-of Iff·rfl (some l)))
         (λ e. rw e (Iff·trans (Iff·symm (no-left (λ h. eqb-false (number (r .class)) (number c) e (ap number (h .0))))) (some l)))
-
--- the first n bytes of s, in s, have the form
-abbrev pub Opens : Form → List ℕ → ℕ → Type 0
-Opens f s n = (n ≤ length s) × Has f (take n s)
 
 pub any-follows : (t : List ℕ) → Follows any t
 any-follows [] = tt

@@ -30,12 +30,11 @@ void n f e w h = none (met (after (alone f) w)) (always n (λ q. unmet (met q)) 
     none (k ∷ l) e h = true≢false (sym e)
 
 -- whether a text has a form can be tested
-rests : Form → List ℕ → Form
+abbrev pub rests : Form → List ℕ → Form
 rests f [] = f
 rests f (b ∷ w) = rests (rest b f) w
 
-tested : (w : List ℕ) (f : Form) → (nullable (rests f w) ≡ true) ↔ Has f w
-unfolding rests
+pub tested : (w : List ℕ) (f : Form) → (nullable (rests f w) ≡ true) ↔ Has f w
 tested [] f = null-has f
 tested (b ∷ w) f = Iff·trans (tested w (rest b f)) (rest-has b f w)
 

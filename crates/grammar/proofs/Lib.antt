@@ -11,4 +11,5 @@ pub mod Lexemes
 pub mod Theorems
 pub mod Unrecognized
 pub mod Equal
+pub mod TextLaws
 pub mod PageLaws

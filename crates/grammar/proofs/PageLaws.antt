@@ -9,12 +9,12 @@ use Rattle.keywords.proofs.Logic.{and-left, and-right}
 use Rattle.words.specs.Bytes.{isDigit, isHexdigit, isIdentifierStart, isIdentifierContinue, isBlank}
 use Rattle.grammar.specs.Form.{none, Form, anything, _·_, _∣_, _but_, Has, lit, without}
 use Rattle.grammar.specs.Classes.{Class, lineComment, blockComment, string, integer, float, blob, parameter, oddBlob, _is_, _is_before_, rules}
-use Rattle.grammar.specs.Longest.{Stands}
+use Rattle.grammar.specs.Longest.{Stands, Opens}
 use Rattle.grammar.specs.Pages
 use Rattle.grammar.proofs.Equivalences.{both, one-of}
 use Rattle.grammar.proofs.States.{ruleAt}
 use Rattle.grammar.proofs.Equal.{isEqual, void, within, equal}
-use Rattle.grammar.proofs.ClassLaws.{only, Opens, one-rule, or-at-end}
+use Rattle.grammar.proofs.ClassLaws.{only, one-rule, or-at-end}
 
 -- the form of a class's i-th rule, from 0, and of its first
 abbrev formAt : Class → ℕ → Form
@@ -28,17 +28,17 @@ abbrev enough : ℕ
 enough = 60
 
 -- the class has one rule, which says nothing of what follows
-abbrev Single : Class → Type 0
-Single c = only c rules ≡ (c is formOf c) ∷ []
+abbrev OneRule : Class → Type 0
+OneRule c = only c rules ≡ (c is formOf c) ∷ []
 
 opens : (f g : Form) → ((w : List ℕ) → Has f w ↔ Has g w) → (s : List ℕ) (n : ℕ) → Opens f s n ↔ Opens g s n
 opens f g e s n = both Iff·rfl (e (take n s))
 
-same : (c : Class) (f : Form) → Single c → isEqual enough (formOf c) f ≡ true → (s : List ℕ) (n : ℕ) → Stands rules c s n ↔ Opens f s n
+same : (c : Class) (f : Form) → OneRule c → isEqual enough (formOf c) f ≡ true → Pages.Same rules c f
 same c f r e s n = Iff·trans (one-rule rules c (formOf c) r s n) (opens (formOf c) f (equal enough (formOf c) f e) s n)
 
 -- A string is the page's string literal.
-pub string-page : (s : List ℕ) (n : ℕ) → Stands rules string s n ↔ Opens Pages.string s n
+pub string-page : Pages.Same rules string Pages.string
 unfolding rules
 string-page = same string Pages.string refl refl
 
@@ -57,31 +57,23 @@ blob-page s n =
     take (l, inl h) = inl (l, h)
     take (l, inr h) = inr (l, h)
 
--- the page's form is the class's texts without `_`
-abbrev pub IsWithoutUnderscore : Class → Form → Type 0
-IsWithoutUnderscore c f = (s : List ℕ) (n : ℕ) → (Stands rules c s n × Has (without "_") (take n s)) ↔ Opens f s n
-
-without-underscore : (c : Class) (f : Form) → Single c → isEqual enough (formOf c but anything · lit "_" · anything) f ≡ true → IsWithoutUnderscore c f
+without-underscore : (c : Class) (f : Form) → OneRule c → isEqual enough (formOf c but anything · lit "_" · anything) f ≡ true → Pages.SameWithoutUnderscore rules c f
 without-underscore c f r e s n =
     Iff·trans (both (one-rule rules c (formOf c) r s n) Iff·rfl)
     (Iff·trans (λ h. (h .0 .0, (h .0 .1, h .1 .1)), λ h. ((h .0, h .1 .0), (tt, h .1 .1)))
     (opens (formOf c but anything · lit "_" · anything) f (equal enough (formOf c but anything · lit "_" · anything) f e) s n))
 
 -- Integers and floats without `_` are the numeric literals of the page's diagram, integer and floating point ones.
-pub integer-page : IsWithoutUnderscore integer Pages.integer
+pub integer-page : Pages.SameWithoutUnderscore rules integer Pages.integer
 unfolding rules isDigit isHexdigit
 integer-page = without-underscore integer Pages.integer refl refl
 
-pub float-page : IsWithoutUnderscore float Pages.floatingPoint
+pub float-page : Pages.SameWithoutUnderscore rules float Pages.floatingPoint
 unfolding rules isDigit isHexdigit
 float-page = without-underscore float Pages.floatingPoint refl refl
 
--- the class's texts are those of f, and those of g where the text ends behind them
-abbrev pub IsToEnd : Class → Form → Form → Type 0
-IsToEnd c f g = (s : List ℕ) (n : ℕ) → Stands rules c s n ↔ (Opens f s n ⊎ (Opens g s n × (drop n s ≡ [])))
-
 to-end : (c : Class) (f g : Form) → only c rules ≡ (c is formAt c 0) ∷ (c is formAt c 1 before none) ∷ []
-    → isEqual enough (formAt c 0) f && isEqual enough (formAt c 1) g ≡ true → IsToEnd c f g
+    → isEqual enough (formAt c 0) f && isEqual enough (formAt c 1) g ≡ true → Pages.SameOrToEnd rules c f g
 to-end c f g r e s n =
     let a = isEqual enough (formAt c 0) f in
     let b = isEqual enough (formAt c 1) g in
@@ -90,16 +82,16 @@ to-end c f g r e s n =
     (both (opens (formAt c 1) g (equal enough (formAt c 1) g (and-right a b e)) s n) Iff·rfl))
 
 -- Comments are the page's.
-pub line-comment-page : IsToEnd lineComment Pages.lineComment Pages.lineToEnd
+pub line-comment-page : Pages.SameOrToEnd rules lineComment Pages.lineComment Pages.lineToEnd
 unfolding rules
 line-comment-page = to-end lineComment Pages.lineComment Pages.lineToEnd refl refl
 
-pub block-comment-page : IsToEnd blockComment Pages.blockComment Pages.blockToEnd
+pub block-comment-page : Pages.SameOrToEnd rules blockComment Pages.blockComment Pages.blockToEnd
 unfolding rules
 block-comment-page = to-end blockComment Pages.blockComment Pages.blockToEnd refl refl
 
 -- Parameters are the page's but for some suffixes, and others that the page does not have.
-pub parameter-page : (s : List ℕ) (n : ℕ) → Stands rules parameter s n ↔ Opens (Pages.parameter but Pages.otherSuffix ∣ Pages.added) s n
+pub parameter-page : Pages.Same rules parameter (Pages.parameter but Pages.otherSuffix ∣ Pages.added)
 unfolding rules isDigit isIdentifierStart isIdentifierContinue isBlank
 parameter-page = same parameter (Pages.parameter but Pages.otherSuffix ∣ Pages.added) refl refl
 

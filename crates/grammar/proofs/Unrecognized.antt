@@ -2,75 +2,86 @@
 use Prim.Native.Nat.{ℕ, zero, suc, _<_}
 use native.Mathlib.Nat.{not-suc-le-zero}
 use mathlib.Core.Path.{_≡_, refl, sym, _∙_, ap, subst}
-use mathlib.Core.Bool.{Bool, true, not, _||_}
-use mathlib.Core.List.{List, [], _∷_, head-eq-of-cons-eq}
-use mathlib.Core.Logic.{_↔_, inl, inr, ⊎-elim}
+use mathlib.Core.Bool.{Bool, true, false, Bool·beq, true≢false}
+use mathlib.Core.List.{List, [], _∷_}
+use mathlib.Core.Logic.{_↔_}
 use lib.Dec.{eqb}
-use lib.ListN.{take}
-use borrow.Author.Tests.{eqb-true}
+use lib.ListN.{length, take}
+use borrow.Author.Tests.{eqb-true, eq-eqb}
 use Rattle.keywords.proofs.Logic.{every}
 use Rattle.words.specs.Bytes.{isDigit, isHexdigit, isIdentifierStart, isIdentifierContinue, isBlank}
-use Rattle.grammar.specs.Form.{Set, holds, blank, no, Form, one, _·_, Has, run}
-use Rattle.grammar.specs.Classes.{Class, unrecognized, _is_before_, U, operators, rules}
-use Rattle.grammar.specs.Longest.{Some, Stands}
-use Rattle.grammar.proofs.Equivalences.{or-iff, not-iff, some-every}
+use Rattle.grammar.specs.Form.{holds, Has}
+use Rattle.grammar.specs.Classes.{Class, unrecognized, U, operators, rules}
+use Rattle.grammar.specs.Longest.{Stands}
+use Rattle.grammar.proofs.Equivalences.{some-every}
 use Rattle.grammar.proofs.States.{Left, State, ruleAt, start, step, after-in}
 use Rattle.grammar.proofs.High.{low, low-set, low-small}
 use Rattle.grammar.proofs.Reach.{below, below-at}
-use Rattle.grammar.proofs.ClassLaws.{stands-only}
+use Rattle.grammar.proofs.ClassLaws.{number, placeOf}
 use Rattle.grammar.proofs.Lexemes
 use Rattle.grammar.proofs.Theorems.{sound, exists}
 
-abbrev isPlace14 : Left → Bool
-isPlace14 x = eqb (x .place) 14
+-- the place of the class's only rule
+abbrev u : ℕ
+u = placeOf unrecognized rules
 
--- behind a byte of U only the rule of class unrecognized is left, at place 14, counted from 0
-isAlone : ℕ → Bool
-isAlone b = not (holds U b) || every isPlace14 (step b (start rules))
+-- behind a byte of U that rule is left alone, behind any other byte it is not left
+abbrev agrees : ℕ → Left → Bool
+agrees b x = Bool·beq (eqb (x .place) u) (holds U b)
 
-computed : below 129 isAlone ≡ true
-unfolding isAlone rules operators isDigit isHexdigit isIdentifierStart isIdentifierContinue isBlank
-computed = refl
+isParted : ℕ → Bool
+isParted b = every (agrees b) (step b (start rules))
 
-class-14 : ruleAt rules 14 .class ≡ unrecognized
+parted : below 129 isParted ≡ true
+unfolding isParted rules operators isDigit isHexdigit isIdentifierStart isIdentifierContinue isBlank
+parted = refl
+
+-- no other rule is of the class
+isRuleU : ℕ → Bool
+isRuleU k = Bool·beq (eqb (number (ruleAt rules k .class)) (number unrecognized)) (eqb k u)
+
+only-u : below (length rules) isRuleU ≡ true
+unfolding isRuleU rules
+only-u = refl
+
+class-u : ruleAt rules u .class ≡ unrecognized
 unfolding rules
-class-14 = refl
+class-u = refl
 
-placed : (q : State) (k : ℕ) (w : List ℕ) → every isPlace14 q ≡ true → Some (λ x. (x .place ≡ k) × Has (x .form) w) q → k ≡ 14
-placed q k w e h =
-    let (x, d, t) = some-every isPlace14 (λ x. (x .place ≡ k) × Has (x .form) w) q e h in
-    sym (d .0) ∙ eqb-true (x .place) 14 t
+beq-eq : (a b : Bool) → Bool·beq a b ≡ true → a ≡ b
+beq-eq true true e = refl
+beq-eq true false e = absurd (true≢false (sym e))
+beq-eq false true e = absurd (true≢false (sym e))
+beq-eq false false e = refl
+
+-- whether a lexeme's rule is that one, its first byte tells
+by-first : (b : ℕ) (s : List ℕ) (c : Class) (n : ℕ) → Stands rules c (b ∷ s) n → (k : ℕ) × (k < length rules) × (ruleAt rules k .class ≡ c) × (eqb k u ≡ holds U b)
+unfolding isParted
+by-first b s c zero t = absurd (not-suc-le-zero (Lexemes.positive rules sound (b ∷ s) c 0 t))
+by-first b s c (suc n) t =
+    let (l, (k, i, e, m, o)) = Lexemes.anywhere-meets rules sound c (b ∷ s) (suc n) .0 (Lexemes.stands-anywhere rules sound c (b ∷ s) (suc n) t) in
+    let p = below-at isParted 129 parted (low b) (low-small b) in
+    let q = subst (λ (q : State). every (agrees (low b)) q ≡ true) (Lexemes.low-at rules sound b []) p in
+    let (x, d, f) = some-every (agrees (low b)) (λ x. (x .place ≡ k) × Has (x .form) (take n s)) (step b (start rules)) q (after-in k (take n s) (step b (start rules)) .0 m) in
+    let g = beq-eq (eqb (x .place) u) (holds U (low b)) f in
+    (k, i, e, ap (λ (j : ℕ). eqb j u) (sym (d .0)) ∙ g ∙ low-set b U refl)
 
 starts-nothing : (b : ℕ) → holds U b ≡ true → (c : Class) (s : List ℕ) (n : ℕ) → Stands rules c (b ∷ s) n → c ≡ unrecognized
-unfolding isAlone
-starts-nothing b u c s zero t = absurd (not-suc-le-zero (Lexemes.positive rules sound (b ∷ s) c 0 t))
-starts-nothing b u c s (suc n) t =
-    let (l, (k, i, e, m, o)) = Lexemes.anywhere-meets rules sound c (b ∷ s) (suc n) .0 (Lexemes.stands-anywhere rules sound c (b ∷ s) (suc n) t) in
-    let p = every isPlace14 (step (low b) (start rules)) in
-    let a = or-iff (not (holds U (low b))) p .0 (below-at isAlone 129 computed (low b) (low-small b)) in
-    let f = ⊎-elim (λ n. absurd (not-iff (holds U (low b)) .0 n (low-set b U refl ∙ u))) (λ e. e) a in
-    let g = subst (λ (q : State). every isPlace14 q ≡ true) (Lexemes.low-at rules sound b []) f in
-    sym e ∙ ap (λ (k : ℕ). ruleAt rules k .class) (placed (step b (start rules)) k (take n s) g (after-in k (take n s) (step b (start rules)) .0 m)) ∙ class-14
+starts-nothing b h c s n t =
+    let (k, i, e, f) = by-first b s c n t in
+    sym e ∙ ap (λ (k : ℕ). ruleAt rules k .class) (eqb-true k u (f ∙ h)) ∙ class-u
 
--- a text of this form begins with a byte of the set
-begins : (t : Set) (g : Form) (b : ℕ) (w : List ℕ) → Has (one t · g) (b ∷ w) → holds t b ≡ true
-begins t g b w ([], v, e, h, k) = absurd h
-begins t g b w (c ∷ [], v, e, h, k) = subst (λ (x : ℕ). holds t x ≡ true) (sym (head-eq-of-cons-eq e)) h
-begins t g b w (c ∷ d ∷ u, v, e, h, k) = absurd h
-
-in-U : (b n : ℕ) → 0 < n → Stands rules unrecognized (b ∷ []) n → holds U b ≡ true
-unfolding rules
-in-U b zero p t = absurd (not-suc-le-zero p)
-in-U b (suc n) p t = go (stands-only rules unrecognized (b ∷ []) (suc n) .0 t)
-  where
-    go : Stands ((unrecognized is one U · run (no blank) before blank) ∷ []) unrecognized (b ∷ []) (suc n) → holds U b ≡ true
-    go (l, inl h) = begins U (run (no blank)) b (take n []) (h .1)
-    go (l, inr h) = absurd h
+is-U : (b : ℕ) (s : List ℕ) (n : ℕ) → Stands rules unrecognized (b ∷ s) n → holds U b ≡ true
+unfolding isRuleU
+is-U b s n t =
+    let (k, i, e, f) = by-first b s unrecognized n t in
+    let g = beq-eq (eqb (number (ruleAt rules k .class)) (number unrecognized)) (eqb k u) (below-at isRuleU (length rules) only-u k i) in
+    sym f ∙ sym g ∙ eq-eqb (number (ruleAt rules k .class)) (number unrecognized) (ap number e)
 
 pub U-starts-nothing-else : (b : ℕ) → (holds U b ≡ true) ↔ ((c : Class) (s : List ℕ) (n : ℕ) → Stands rules c (b ∷ s) n → c ≡ unrecognized)
-U-starts-nothing-else b = (starts-nothing b, λ h. back h)
+U-starts-nothing-else b = (starts-nothing b, back)
   where
     back : ((c : Class) (s : List ℕ) (n : ℕ) → Stands rules c (b ∷ s) n → c ≡ unrecognized) → holds U b ≡ true
     back h =
         let (c, n, p, l) = exists b [] in
-        in-U b n p (subst (λ (c : Class). Stands rules c (b ∷ []) n) (h c [] n (l .stands)) (l .stands))
+        is-U b [] n (subst (λ (c : Class). Stands rules c (b ∷ []) n) (h c [] n (l .stands)) (l .stands))

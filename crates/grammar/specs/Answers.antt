@@ -86,8 +86,8 @@ answer openBlob at w = whole "UnterminatedLiteral" at w
 answer oddBlob at w = whole "UnrecognizedToken" at w
 -- 1, whole span
 answer badParameter at w = whole "UnrecognizedToken" at w
--- 3, through the `_`. It begins after the previous `_` of the same digit run, else at the run's start, which is after the last
--- byte that is no digit; the integer part's run starts after its first digit.
+-- 3, through the `_`. It begins after the previous `_` of the same digit run, else at the run's start: in both cases after the last
+-- byte before that `_` that is no digit. The integer part's run starts after its first digit, hence at least 1.
 answer underscore at w = toEnd "BadNumber" at w (max 1 (afterLast (no D) (init w)))
 -- 3, the Dig only; 4, from the dot to before S
 answer wordAfterInteger at w = toLast "BadNumber" at w 0

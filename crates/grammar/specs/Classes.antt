@@ -41,8 +41,11 @@ sign = opt (one (oneOf "+-"))
 abbrev pub exp : Form
 exp = e · sign · opt (lit "_") · dig
 
+abbrev pub x : Form
+x = one (oneOf "xX")
+
 abbrev pub zeroX : Form
-zeroX = lit "0" · one (oneOf "xX")
+zeroX = lit "0" · x
 
 -- `0x` or `0X` H+ ( `_` H+ )*
 abbrev pub hexInteger : Form
@@ -51,9 +54,6 @@ hexInteger = zeroX · some H · many (lit "_" · some H)
 -- a quote and a body in which that quote appears only doubled
 abbrev pub opened : Set → Form
 opened q = one q · many (one (no q) ∣ one q · one q)
-
-abbrev pub x : Form
-x = one (oneOf "xX")
 
 -- C bytes and `::` pairs
 abbrev pub pieces : Form
@@ -80,7 +80,7 @@ inDig = dig ∣ dig · lit "." · dig ∣ lit "." · dig ∣ front · exp
 
 -- a byte that starts nothing else: controls but blanks, `\ ^ { }`, 7F
 abbrev pub U : Set
-U = control except blank or oneOf "\\^{}" or byte 0x7F
+U = (control except blank) or oneOf "\\^{}" or byte 0x7F
 
 unfoldable pub operators : List Entry
 operators =
@@ -128,14 +128,16 @@ rules =
     -- Malformed. U: a byte that starts nothing above or below, on to the next blank or the end.
     unrecognized is one U · run (no blank) before blank ∷
     -- `!` alone. A quote and body never closed.
-    bang is lit "!" ∷
+    bang is lit "!" before no (oneOf "=") ∷
     openQuote is opened (oneOf "'") ∣ opened (oneOf "\"") ∣ opened (oneOf "`") before none ∷
     -- `x'` H* with no quote after it. Odd number of H, closed.
     openBlob is x · lit "'" · run H before no (oneOf "'") ∷
     oddBlob is x · lit "'" · one H · many (one H · one H) · lit "'" ∷
     -- `$`, `@` alone or with pairs only; `:` with one or more pairs only; a name whose `(` part meets a blank or the end.
-    badParameter is one (oneOf "$@") · pairs ∣ lit ":" · lit "::" · pairs ∷
+    badParameter is one (oneOf "$@") · pairs ∣ lit ":" · lit "::" · pairs before no C ∷
     badParameter is named · paren before blank ∷
+    -- (A trailing S or `_` below belongs to the malformed lexeme even if its span is shorter. In the next five rules the number does
+    -- not begin with `0x` or `0X`, since no Dig goes past that 0, and `e` is its first `e` or `E`.)
     -- `_` after a Dig (or after `e` and sign) with no D next.
     underscore is (inDig ∣ front · e · sign) · lit "_" before no D ∷
     -- Dig and an S that isn't `_`, `e`, `E`, nor `x`/`X` after a lone 0. `.` Dig (or Dig `.` Dig) and such an S (`x` included).

@@ -42,6 +42,7 @@ abbrev pub oneOf : String → Set
 oneOf String.[] = none
 oneOf (String._∷_ c s) = byte (code c) or oneOf s
 
+-- binding, the tightest first: except, or, ·, but, ∣
 infixr 90 _·_
 infix 85 _but_
 infixr 80 _∣_

@@ -5,7 +5,7 @@ use mathlib.Core.Bool.{true}
 use mathlib.Core.List.{List, [], _∷_, map}
 use mathlib.Core.Logic.{_⊎_}
 use lib.ListN.{length, take, drop}
-use Rattle.grammar.specs.Form.{Set, holds, Has}
+use Rattle.grammar.specs.Form.{Set, holds, Form, Has}
 use Rattle.grammar.specs.Classes.{Class, Rule, _is_}
 use Rattle.grammar.specs.Answers.{Answer, end, refusal, refusalNumber, answer}
 
@@ -22,6 +22,10 @@ Follows t (b ∷ s) = holds t b ≡ true
 -- the first n bytes of s stand in class c: they have the form of one of its rules, and what follows them is as that rule says
 abbrev pub Stands : List Rule → Class → List ℕ → ℕ → Type 0
 Stands rs c s n = (n ≤ length s) × Some (λ r. (r .class ≡ c) × Has (r .form) (take n s) × Follows (r .next) (drop n s)) rs
+
+-- the first n bytes of s have the form
+abbrev pub Opens : Form → List ℕ → ℕ → Type 0
+Opens f s n = (n ≤ length s) × Has f (take n s)
 
 -- the rules with nothing said of what follows
 abbrev pub anywhere : List Rule → List Rule

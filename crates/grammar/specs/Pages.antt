@@ -1,6 +1,13 @@
 -- Strings, blobs, numbers, comments and parameters as SQLite's published pages have them (sqlite3-doc 3.40.1), in the pages' words.
 -- The pages do not say which bytes a digit, a name or a blank has: these are document 01's. Assumes nothing.
-use Rattle.grammar.specs.Form.{D, H, S, C, blank, no, _or_, _except_, oneOf, Form, anything, one, _·_, _∣_, _but_, many, lit, run, some, opt, without}
+use Prim.Native.Nat.{ℕ}
+use mathlib.Core.Path.{_≡_}
+use mathlib.Core.List.{List, []}
+use mathlib.Core.Logic.{_↔_, _⊎_}
+use lib.ListN.{take, drop}
+use Rattle.grammar.specs.Classes.{Class, Rule}
+use Rattle.grammar.specs.Longest.{Stands, Opens}
+use Rattle.grammar.specs.Form.{Has, D, H, S, C, blank, no, _or_, _except_, oneOf, Form, anything, one, _·_, _∣_, _but_, many, lit, run, some, opt, without}
 
 -- lang_expr.html, section 3, Literal Values (Constants)
 
@@ -27,15 +34,13 @@ numericLiteral =
     (lit "0x" ∣ lit "0X") · some H
 
 -- 'If a numeric literal has a decimal point or an exponentiation clause [..], then it is a floating point literal. Otherwise is it
--- is an integer literal.' (Left out: a value beyond 64 bits makes a floating point literal too. That is no matter of form.)
-abbrev pub pointOrExponent : Form
-pointOrExponent = anything · lit "." · anything ∣ digits · exponent
+-- is an integer literal.' (Left out: a value outside -9223372036854775808 to 9223372036854775807 makes a floating point literal too.
+-- That is no matter of form.)
+abbrev pub integer : Form
+integer = numericLiteral but (anything · lit "." · anything ∣ digits · exponent)
 
 abbrev pub floatingPoint : Form
-floatingPoint = numericLiteral but (anything but pointOrExponent)
-
-abbrev pub integer : Form
-integer = numericLiteral but pointOrExponent
+floatingPoint = numericLiteral but integer
 
 -- lang_comment.html, the diagram comment-syntax
 
@@ -58,7 +63,8 @@ blockToEnd = lit "/*" · without "*/"
 abbrev pub identifierName : Form
 identifierName = one S · run C
 
--- `?` and `?NNN`: 'A question mark followed by a number NNN' (Left out: its bounds, which are no matter of form.)
+-- `?NNN`: 'A question mark followed by a number NNN' (Left out: its bounds, which are no matter of form.) `?`: 'A question mark that
+-- is not followed by a number' (Left out: what follows.)
 abbrev pub questionMark : Form
 questionMark = lit "?" · opt digits
 
@@ -67,7 +73,8 @@ abbrev pub colonOrAt : Form
 colonOrAt = (lit ":" ∣ lit "@") · identifierName
 
 -- `$AAAA`: 'A dollar-sign followed by an identifier name [..]. The identifier name in this case can include one or more occurrences
--- of "::" and a suffix enclosed in "(...)" containing any text at all.'
+-- of "::" and a suffix enclosed in "(...)" containing any text at all.' It is read so: what is left without the pairs is an
+-- identifier name.
 abbrev pub nameWithPairs : Form
 nameWithPairs = many (lit "::") · one S · many (one C ∣ lit "::")
 
@@ -78,19 +85,33 @@ abbrev pub parameter : Form
 parameter = questionMark ∣ colonOrAt ∣ dollar
 
 -- What document 01 leaves out of these: a suffix that holds a `)` or a blank.
+abbrev pub suffixBody : Form
+suffixBody = run (no (oneOf ")" or blank))
+
 abbrev pub otherSuffix : Form
-otherSuffix = lit "$" · nameWithPairs · lit "(" · (anything but run (no (oneOf ")" or blank))) · lit ")"
+otherSuffix = lit "$" · nameWithPairs · lit "(" · (anything but suffixBody) · lit ")"
 
 -- What it adds: names whose first byte but for pairs is a digit or `$` (after `:` only behind a pair); and, after `:` and `@` too,
 -- pairs and a suffix.
 abbrev pub suffix : Form
-suffix = lit "(" · run (no (oneOf ")" or blank)) · lit ")"
+suffix = lit "(" · suffixBody · lit ")"
 
-abbrev pub digitFirst : Form
-digitFirst = (one (oneOf "$@") ∣ lit ":" · lit "::") · many (lit "::") · one (C except S) · many (one C ∣ lit "::") · opt suffix
+abbrev pub otherFirst : Form
+otherFirst = (one (oneOf "$@") ∣ lit ":" · lit "::") · many (lit "::") · one (C except S) · many (one C ∣ lit "::") · opt suffix
 
 abbrev pub moreAfterColon : Form
 moreAfterColon = one (oneOf ":@") · nameWithPairs · opt suffix but colonOrAt
 
 abbrev pub added : Form
-added = digitFirst ∣ moreAfterColon
+added = otherFirst ∣ moreAfterColon
+
+-- How a class and the pages' forms may relate. The class has just the texts of the form; just those and, with `_`, others; or those of
+-- one form, and those of another where the text ends behind them.
+abbrev pub Same : List Rule → Class → Form → Type 0
+Same rs c f = (s : List ℕ) (n : ℕ) → Stands rs c s n ↔ Opens f s n
+
+abbrev pub SameWithoutUnderscore : List Rule → Class → Form → Type 0
+SameWithoutUnderscore rs c f = (s : List ℕ) (n : ℕ) → (Stands rs c s n × Has (without "_") (take n s)) ↔ Opens f s n
+
+abbrev pub SameOrToEnd : List Rule → Class → Form → Form → Type 0
+SameOrToEnd rs c f g = (s : List ℕ) (n : ℕ) → Stands rs c s n ↔ (Opens f s n ⊎ (Opens g s n × (drop n s ≡ [])))

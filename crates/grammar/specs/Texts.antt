@@ -1,12 +1,13 @@
--- Texts and what Next, walked over them from offset 0, must give: those of document 01, and some that are easy to get wrong.
--- Assumes nothing.
+-- Texts and what Next, walked over them, must give: those of document 01, with its numbers, and some that are easy to get wrong; and
+-- openings of texts that do not stand in a class, because of what follows. Assumes nothing.
 use Prim.Native.Nat.{ℕ, _+_}
 use Prim.Native.String.{String}
 use mathlib.Core.List.{List, [], _∷_}
 use Rattle.keywords.specs.Kinds.{kind}
 use Rattle.keywords.specs.Text.{bytes}
-use Rattle.grammar.specs.Classes.{Rule}
-use Rattle.grammar.specs.Answers.{Answer, token, end, refusal, refusalNumber}
+use Rattle.grammar.specs.Classes.{Class, lineComment, blockComment, unrecognized, bang, openQuote, openBlob, badParameter, underscore}
+use Rattle.grammar.specs.Classes.{noExponent, noHexdigit, hexUnderscore, Rule}
+use Rattle.grammar.specs.Answers.{Answer, token, end, refusal}
 use Rattle.grammar.specs.Longest.{Gives}
 
 -- where Next goes on after an answer
@@ -27,44 +28,42 @@ Every P (x ∷ l) = P x × Every P l
 
 pub record Row : Type 0 where
   pub text : List ℕ
+  pub from : ℕ
   pub answers : List Answer
 
 infix 70 _gives_
 abbrev pub _gives_ : String → List Answer → Row
-t gives l = record { text = bytes t; answers = l }
+t gives l = record { text = bytes t; from = 0; answers = l }
 
--- a token by its kind's name, a refusal by its own
+-- a token by its kind's name
 abbrev pub tk : String → ℕ → ℕ → Answer
 tk name start n = token (kind name) start n (start + n)
-
-abbrev pub no : String → ℕ → ℕ → ℕ → Answer
-no name start n at = refusal (refusalNumber name) start n at
 
 unfoldable pub table : List Row
 table =
     -- marked P
     "" gives (end 0 ∷ []) ∷
     "1.a" gives (tk "TK_FLOAT" 0 2 ∷ tk "TK_ID" 2 1 ∷ end 3 ∷ []) ∷
-    "1.5a" gives (no "BadFractionalPart" 1 2 0 ∷ []) ∷
-    "12_x" gives (no "BadNumber" 1 2 0 ∷ []) ∷
+    "1.5a" gives (refusal 4 1 2 0 ∷ []) ∷
+    "12_x" gives (refusal 3 1 2 0 ∷ []) ∷
     "1_2" gives (tk "TK_INTEGER" 0 3 ∷ end 3 ∷ []) ∷
-    "0x_1" gives (no "BadNumber" 2 0 0 ∷ []) ∷
+    "0x_1" gives (refusal 3 2 0 0 ∷ []) ∷
     "1e_5" gives (tk "TK_FLOAT" 0 4 ∷ end 4 ∷ []) ∷
     "::a" gives (tk "TK_COLON" 0 1 ∷ tk "TK_VARIABLE" 1 2 ∷ end 3 ∷ []) ∷
-    ":::" gives (no "UnrecognizedToken" 0 3 0 ∷ []) ∷
-    "'''" gives (no "UnterminatedLiteral" 0 3 0 ∷ []) ∷
+    ":::" gives (refusal 1 0 3 0 ∷ []) ∷
+    "'''" gives (refusal 2 0 3 0 ∷ []) ∷
     "/*/" gives (tk "TK_NONE" 0 3 ∷ end 3 ∷ []) ∷
-    "x'1'" gives (no "UnrecognizedToken" 0 4 0 ∷ []) ∷
+    "x'1'" gives (refusal 1 0 4 0 ∷ []) ∷
     "5.e-1" gives (tk "TK_FLOAT" 0 5 ∷ end 5 ∷ []) ∷
-    -- the others of that section
-    "1_2_x" gives (no "BadNumber" 2 2 0 ∷ []) ∷
-    "1e+" gives (no "BadExponentPart" 1 2 0 ∷ []) ∷
-    "0x1g" gives (no "BadNumber" 0 3 0 ∷ []) ∷
+    -- the others of 'Texts and what they give' that speak of Next
+    "1_2_x" gives (refusal 3 2 2 0 ∷ []) ∷
+    "1e+" gives (refusal 5 1 2 0 ∷ []) ∷
+    "0x1g" gives (refusal 3 0 3 0 ∷ []) ∷
     ".e5" gives (tk "TK_DOT" 0 1 ∷ tk "TK_ID" 1 2 ∷ end 3 ∷ []) ∷
     "$a:::b" gives (tk "TK_VARIABLE" 0 4 ∷ tk "TK_VARIABLE" 4 2 ∷ end 6 ∷ []) ∷
-    "$a(b c)" gives (no "UnrecognizedToken" 0 4 0 ∷ []) ∷
+    "$a(b c)" gives (refusal 1 0 4 0 ∷ []) ∷
     "#ab" gives (tk "TK_ILLEGAL" 0 3 ∷ end 3 ∷ []) ∷
-    record { text = 0x0B ∷ 0x41 ∷ 0x20 ∷ []; answers = no "UnrecognizedToken" 0 2 2 ∷ tk "TK_NONE" 2 1 ∷ end 3 ∷ [] } ∷
+    record { text = 0x0B ∷ 0x41 ∷ 0x20 ∷ []; from = 0; answers = refusal 1 0 2 2 ∷ tk "TK_NONE" 2 1 ∷ end 3 ∷ [] } ∷
     "SELECT 1.e-1;\n" gives
     (tk "TK_SELECT" 0 6 ∷ tk "TK_NONE" 6 1 ∷ tk "TK_FLOAT" 7 5 ∷ tk "TK_SEMI" 12 1 ∷ tk "TK_NONE" 13 1 ∷ end 14 ∷ []) ∷
     -- easy to get wrong
@@ -72,15 +71,46 @@ table =
     "'a''b'" gives (tk "TK_STRING" 0 6 ∷ end 6 ∷ []) ∷
     "\"a\"\"b\"" gives (tk "TK_ID" 0 6 ∷ end 6 ∷ []) ∷
     "x'12'" gives (tk "TK_BLOB" 0 5 ∷ end 5 ∷ []) ∷
-    "x'1g'" gives (no "UnterminatedLiteral" 0 3 0 ∷ []) ∷
+    "x'1g'" gives (refusal 2 0 3 0 ∷ []) ∷
     "-- a\n->>" gives (tk "TK_NONE" 0 5 ∷ tk "TK_PTR" 5 3 ∷ end 8 ∷ []) ∷
     "0X1_F" gives (tk "TK_INTEGER" 0 5 ∷ end 5 ∷ []) ∷
-    "0x" gives (no "MalformedHexInteger" 0 2 0 ∷ []) ∷
-    "0x1_2_" gives (no "BadNumber" 4 2 0 ∷ []) ∷
-    "00x" gives (no "BadNumber" 0 2 0 ∷ []) ∷
-    "1e_5_" gives (no "BadNumber" 3 2 0 ∷ []) ∷
-    "1e5a" gives (no "BadExponentPart" 1 2 0 ∷ []) ∷
-    "!" gives (no "ExpectedEqualsSign" 0 1 0 ∷ []) ∷
+    "0x" gives (refusal 6 0 2 0 ∷ []) ∷
+    "0x1_2_" gives (refusal 3 4 2 0 ∷ []) ∷
+    "00x" gives (refusal 3 0 2 0 ∷ []) ∷
+    "1e_5_" gives (refusal 3 3 2 0 ∷ []) ∷
+    "1e5a" gives (refusal 5 1 2 0 ∷ []) ∷
+    "!" gives (refusal 7 0 1 0 ∷ []) ∷
     "?1a" gives (tk "TK_VARIABLE" 0 2 ∷ tk "TK_ID" 2 1 ∷ end 3 ∷ []) ∷
     "returning" gives (tk "TK_RETURNING" 0 9 ∷ end 9 ∷ []) ∷
+    record { text = bytes "a"; from = 1; answers = end 1 ∷ [] } ∷
+    record { text = bytes "a"; from = 2; answers = refusal 8 0 0 2 ∷ [] } ∷
+    []
+
+-- the first n bytes of a text do not stand in the class
+pub record Unfit : Type 0 where
+  pub class : Class
+  pub text : List ℕ
+  pub length : ℕ
+
+abbrev pub unfit : Class → String → ℕ → Unfit
+unfit c t n = record { class = c; text = bytes t; length = n }
+
+-- one for each condition on what follows
+unfoldable pub unfits : List Unfit
+unfits =
+    unfit lineComment "--a\n" 3 ∷
+    unfit blockComment "/*a*/" 3 ∷
+    unfit unrecognized "{a" 1 ∷
+    unfit bang "!=" 1 ∷
+    unfit openQuote "'a'" 2 ∷
+    unfit openBlob "x'12'" 4 ∷
+    unfit badParameter "$a" 1 ∷
+    unfit badParameter ":::a" 3 ∷
+    unfit badParameter "$a(b)" 4 ∷
+    unfit underscore "1_2" 2 ∷
+    unfit noExponent "1e5" 2 ∷
+    unfit noExponent "1e_" 2 ∷
+    unfit noHexdigit "0x1" 2 ∷
+    unfit noHexdigit "0x_" 2 ∷
+    unfit hexUnderscore "0x1_2" 4 ∷
     []

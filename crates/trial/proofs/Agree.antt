@@ -7,7 +7,7 @@ use Rattle.words.specs.Bytes.{isDigit, isHexdigit, isIdentifierStart, isIdentif
 use Rattle.words.specs.Word.{upper, kindOf}
 use Rattle.grammar.specs.Classes.{operators, rules}
 use Rattle.grammar.specs.Answers.{Answer, answer}
-use Rattle.grammar.proofs.Theorems.{walk}
+use Rattle.grammar.proofs.TextLaws.{walk}
 use Rattle.trial.specs.Rows
 use Rattle.trial.specs.Rows.{Line}
 

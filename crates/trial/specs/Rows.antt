@@ -7,8 +7,8 @@ use Prim.Native.String.{String}
 use mathlib.Core.Bool.{cond}
 use mathlib.Core.List.{List, [], _∷_}
 use lib.Dec.{leb}
-use Rattle.grammar.specs.Answers.{Answer, end}
-use Rattle.grammar.specs.Texts.{tk, no}
+use Rattle.grammar.specs.Answers.{Answer, end, refusal, refusalNumber}
+use Rattle.grammar.specs.Texts.{tk}
 
 pub record Line : Type 0 where
   pub text : List ℕ
@@ -25,6 +25,9 @@ hex (String._∷_ c (String._∷_ d s)) = (16 * digit c + digit d) ∷ hex s
 
 abbrev line : String → ℕ → List Answer → Line
 line t o l = record { text = hex t; at = o; answers = l }
+
+abbrev no : String → ℕ → ℕ → ℕ → Answer
+no name start n at = refusal (refusalNumber name) start n at
 
 unfoldable pub lines0 : List Line
 lines0 =

@@ -1,0 +1,134 @@
+-- The tables of texts hold. Assumes nothing.
+use Prim.Native.Nat.{ℕ, zero, suc}
+use mathlib.Core.Path.{_≡_, refl, sym, _∙_, ap, subst}
+use mathlib.Core.Bool.{Bool, true, false, not, _&&_, _||_}
+use mathlib.Core.List.{List, [], _∷_, _++_, map, head-eq-of-cons-eq, tail-eq-of-cons-eq}
+use lib.Dec.{eqb, leb, ltb}
+use lib.ListN.{length, take, drop}
+use borrow.Author.Tests.{eq-eqb}
+use Rattle.keywords.specs.Kinds.{kindNames}
+use Rattle.keywords.specs.Words.{wordList}
+use Rattle.keywords.proofs.Logic.{and-left, and-right, every}
+use Rattle.words.specs.Bytes.{isDigit, isHexdigit, isIdentifierStart, isIdentifierContinue, isBlank}
+use Rattle.words.specs.Word.{upper, kindOf}
+use Rattle.grammar.specs.Form.{Set, holds, Has}
+use Rattle.grammar.specs.Classes.{Class, Rule, operators, rules}
+use Rattle.grammar.specs.Answers.{Answer, token, end, refusal, refusalNames, answer}
+use Rattle.grammar.specs.Longest.{Follows, Stands, Gives}
+use Rattle.grammar.specs.Texts
+use Rattle.grammar.specs.Texts.{Row, Every, Walks, table, Unfit, unfits}
+use Rattle.grammar.proofs.Equivalences.{and-iff, not-iff, some-every}
+use Rattle.grammar.proofs.Rest.{nullable}
+use Rattle.grammar.proofs.States.{ruleAt, start}
+use Rattle.grammar.proofs.Model.{Found, nothing, found, scan, next}
+use Rattle.grammar.proofs.Reach.{below}
+use Rattle.grammar.proofs.Equal.{rests, tested}
+use Rattle.grammar.proofs.ClassLaws.{number}
+use Rattle.grammar.proofs.Lexemes.{next-gives}
+use Rattle.grammar.proofs.Theorems.{sound}
+
+-- a walk as the model computes it
+abbrev pub walk : ℕ → List ℕ → ℕ → List Answer
+walk zero s at = []
+walk (suc n) s at = next rules s at ∷ walk n s (Texts.offset (next rules s at))
+
+walk-walks : (s : List ℕ) (l : List Answer) (at : ℕ) → walk (length l) s at ≡ l → Walks rules s at l
+walk-walks s [] at e = tt
+walk-walks s (a ∷ l) at e =
+    let h = head-eq-of-cons-eq e in (
+      subst (Gives rules s at) h (next-gives rules sound s at),
+      walk-walks s l (Texts.offset a) (subst (λ (a : Answer). walk (length l) s (Texts.offset a) ≡ l) h (tail-eq-of-cons-eq e)),
+    )
+
+computed : map (λ r. walk (length (r .answers)) (r .text) (r .from)) table ≡ map (λ r. r .answers) table
+unfolding table rules operators isDigit isHexdigit isIdentifierStart isIdentifierContinue isBlank answer kindOf upper wordList
+computed = refl
+
+-- Next gives what the table says.
+pub texts : Every (λ r. Walks rules (r .text) (r .from) (r .answers)) table
+texts = every-row table computed
+  where
+    every-row : (l : List Row) → map (λ r. walk (length (r .answers)) (r .text) (r .from)) l ≡ map (λ r. r .answers) l
+        → Every (λ r. Walks rules (r .text) (r .from) (r .answers)) l
+    every-row [] e = tt
+    every-row (r ∷ l) e = (walk-walks (r .text) (r .answers) (r .from) (head-eq-of-cons-eq e), every-row l (tail-eq-of-cons-eq e))
+
+-- A misspelt kind would have a number out of range: none of the table or the operators has.
+abbrev known : Answer → Bool
+known (token k start n next) = ltb k (length kindNames)
+known (end at) = true
+known (refusal k start n at) = leb k (length refusalNames)
+
+pub table-known : every (λ r. every known (r .answers)) table ≡ true
+unfolding table
+table-known = refl
+
+pub operators-known : every (λ o. leb 1 (o .kind) && leb (o .kind) 28) operators ≡ true
+unfolding operators
+operators-known = refl
+
+-- The table has a lexeme of each class.
+abbrev classOf : Found → List ℕ
+classOf nothing = []
+classOf (found n k) = number (ruleAt rules k .class) ∷ []
+
+abbrev classes : ℕ → List ℕ → ℕ → List ℕ
+classes zero s at = []
+classes (suc n) s at = classOf (scan (start rules) (drop at s)) ++ classes n s (Texts.offset (next rules s at))
+
+abbrev tableClasses : List Row → List ℕ
+tableClasses [] = []
+tableClasses (r ∷ l) = classes (length (r .answers)) (r .text) (r .from) ++ tableClasses l
+
+abbrev isIn : ℕ → List ℕ → Bool
+isIn c [] = false
+isIn c (x ∷ l) = eqb x c || isIn c l
+
+abbrev hasAll : List ℕ → Bool
+hasAll l = below 27 (λ c. isIn c l)
+
+pub table-classes : hasAll (tableClasses table) ≡ true
+unfolding table rules operators isDigit isHexdigit isIdentifierStart isIdentifierContinue isBlank answer kindOf upper wordList
+table-classes = refl
+
+-- whether the rule lets the first n bytes of s stand in c
+abbrev isFollowed : Set → List ℕ → Bool
+isFollowed t [] = true
+isFollowed t (b ∷ s) = holds t b
+
+abbrev fits : Class → List ℕ → ℕ → Rule → Bool
+fits c s n r = eqb (number (r .class)) (number c) && nullable (rests (r .form) (take n s)) && isFollowed (r .next) (drop n s)
+
+-- a rule that lets them stand passes the test
+fits-rule : (c : Class) (s : List ℕ) (n : ℕ) (r : Rule) → (r .class ≡ c) × Has (r .form) (take n s) × Follows (r .next) (drop n s) → fits c s n r ≡ true
+fits-rule c s n r (e, h, f) =
+    let a = eqb (number (r .class)) (number c) in
+    let b = nullable (rests (r .form) (take n s)) in
+    let i = and-iff a b .1 (eq-eqb (number (r .class)) (number c) (ap number e), tested (take n s) (r .form) .1 h) in
+    and-iff (a && b) (isFollowed (r .next) (drop n s)) .1 (i, followed (drop n s) f)
+  where
+    followed : (t : List ℕ) → Follows (r .next) t → isFollowed (r .next) t ≡ true
+    followed [] g = refl
+    followed (b ∷ t) g = g
+
+-- no rule does
+abbrev isUnfit : Unfit → Bool
+isUnfit u = every (λ r. not (fits (u .class) (u .text) (u .length) r)) rules
+
+unfit-computed : every isUnfit unfits ≡ true
+unfolding unfits rules operators isDigit isHexdigit isIdentifierStart isIdentifierContinue isBlank
+unfit-computed = refl
+
+-- What the other table says does not stand does not.
+pub unfit : Every (λ u. Stands rules (u .class) (u .text) (u .length) → ⊥) unfits
+unfit = every-row unfits unfit-computed
+  where
+    row : (u : Unfit) → isUnfit u ≡ true → Stands rules (u .class) (u .text) (u .length) → ⊥
+    row u e (l, h) =
+        let f = fits (u .class) (u .text) (u .length) in
+        let (r, k, t) = some-every (λ r. not (f r)) _ rules e h in
+        not-iff (f r) .0 t (fits-rule (u .class) (u .text) (u .length) r k)
+
+    every-row : (l : List Unfit) → every isUnfit l ≡ true → Every (λ u. Stands rules (u .class) (u .text) (u .length) → ⊥) l
+    every-row [] e = tt
+    every-row (u ∷ l) e = (row u (and-left (isUnfit u) (every isUnfit l) e), every-row l (and-right (isUnfit u) (every isUnfit l) e))
