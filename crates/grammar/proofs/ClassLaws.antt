@@ -1,11 +1,11 @@
 -- The rules of one class. Assumes nothing.
-use Prim.Native.Nat.{ℕ, suc, _≤_}
+use Prim.Native.Nat.{ℕ, suc}
 use mathlib.Core.Path.{_≡_, refl, sym, ap, subst}
 use mathlib.Core.Bool.{cond, true≢false}
 use mathlib.Core.List.{List, [], _∷_, cons≢nil}
 use mathlib.Core.Logic.{_↔_, _⊎_, inl, inr, Iff·rfl, Iff·symm, Iff·trans}
 use lib.Dec.{eqb}
-use lib.ListN.{length, take, drop}
+use lib.ListN.{take, drop}
 use borrow.Author.Tests.{eqb-false}
 use Rattle.keywords.proofs.Logic.{split}
 use Rattle.grammar.specs.Form.{none, any, Form, Has}

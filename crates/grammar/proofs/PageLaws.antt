@@ -4,10 +4,10 @@ use mathlib.Core.Path.{_≡_, refl}
 use mathlib.Core.Bool.{true, _&&_}
 use mathlib.Core.List.{List, [], _∷_}
 use mathlib.Core.Logic.{_↔_, _⊎_, inl, inr, Iff·rfl, Iff·trans}
-use lib.ListN.{take, drop}
+use lib.ListN.{take}
 use Rattle.keywords.proofs.Logic.{and-left, and-right}
 use Rattle.words.specs.Bytes.{isDigit, isHexdigit, isIdentifierStart, isIdentifierContinue, isBlank}
-use Rattle.grammar.specs.Form.{none, Form, anything, _·_, _∣_, _but_, Has, lit, without}
+use Rattle.grammar.specs.Form.{none, Form, anything, _·_, _∣_, _but_, Has, lit}
 use Rattle.grammar.specs.Classes.{Class, lineComment, blockComment, string, integer, float, blob, parameter, oddBlob, _is_, _is_before_, rules}
 use Rattle.grammar.specs.Longest.{Stands, Opens}
 use Rattle.grammar.specs.Pages
