@@ -1,39 +1,34 @@
--- The definitions give the published lexer's answers; made by tools/trial. Assumes nothing.
+-- The grammar's definitions give the answers of the fixed list's walks. Assumes nothing.
+use Prim.Native.Nat.{ℕ, zero, suc}
+use Prim.Native.String
+use Prim.Native.String.{String}
 use mathlib.Core.Path.{_≡_, refl}
-use mathlib.Core.List.{List, map}
+use mathlib.Core.Bool.{Bool, true, cond}
+use mathlib.Core.List.{List}
 use lib.ListN.{length}
+use lib.Text.{eqt}
 use Rattle.keywords.specs.Words.{wordList}
+use Rattle.keywords.proofs.Logic.{every}
 use Rattle.words.specs.Bytes.{isDigit, isHexdigit, isIdentifierStart, isIdentifierContinue, isBlank}
 use Rattle.words.specs.Word.{upper, kindOf}
 use Rattle.grammar.specs.Classes.{operators, rules}
 use Rattle.grammar.specs.Answers.{Answer, answer}
-use Rattle.grammar.proofs.TextLaws.{walk}
-use Rattle.trial.specs.Rows
-use Rattle.trial.specs.Rows.{Line}
+use Rattle.grammar.specs.Texts.{offset}
+use Rattle.grammar.proofs.Model.{next}
+use Rattle.trial.specs.Lines.{Line, unhex, shown, isToken}
+use Rattle.trial.specs.Rows.{rows}
 
-abbrev Agree : List Line → Type 0
-Agree l = map (λ r. walk (length (r .answers)) (r .text) (r .at)) l ≡ map (λ r. r .answers) l
+-- the answers of a walk of at most n tokens, as the list writes them
+abbrev walked : ℕ → List ℕ → ℕ → String
+walked zero s at = ""
+walked (suc n) s at =
+    let a = next rules s at in
+    let more = String._++_ (shown a) (String._++_ " " (walked n s (offset a))) in
+    cond (isToken a) more (shown a)
 
-pub agree-lines0 : Agree Rows.lines0
-unfolding Rows.lines0 rules operators isDigit isHexdigit isIdentifierStart isIdentifierContinue isBlank answer kindOf upper wordList
-agree-lines0 = refl
+abbrev agrees : Line → Bool
+agrees l = let s = unhex (l .text) in eqt (walked (suc (length s)) s (l .from)) (l .answers)
 
-pub agree-lines1 : Agree Rows.lines1
-unfolding Rows.lines1 rules operators isDigit isHexdigit isIdentifierStart isIdentifierContinue isBlank answer kindOf upper wordList
-agree-lines1 = refl
-
-pub agree-lines2 : Agree Rows.lines2
-unfolding Rows.lines2 rules operators isDigit isHexdigit isIdentifierStart isIdentifierContinue isBlank answer kindOf upper wordList
-agree-lines2 = refl
-
-pub agree-lines3 : Agree Rows.lines3
-unfolding Rows.lines3 rules operators isDigit isHexdigit isIdentifierStart isIdentifierContinue isBlank answer kindOf upper wordList
-agree-lines3 = refl
-
-pub agree-lines4 : Agree Rows.lines4
-unfolding Rows.lines4 rules operators isDigit isHexdigit isIdentifierStart isIdentifierContinue isBlank answer kindOf upper wordList
-agree-lines4 = refl
-
-pub agree-lines5 : Agree Rows.lines5
-unfolding Rows.lines5 rules operators isDigit isHexdigit isIdentifierStart isIdentifierContinue isBlank answer kindOf upper wordList
-agree-lines5 = refl
+pub agree : every agrees rows ≡ true
+unfolding rows rules operators isDigit isHexdigit isIdentifierStart isIdentifierContinue isBlank answer kindOf upper wordList
+agree = refl
