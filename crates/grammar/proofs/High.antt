@@ -12,6 +12,7 @@ use Rattle.grammar.specs.Form.{Set, none, D, H, S, C, blank, control, by
 use Rattle.grammar.proofs.Rest.{rest}
 use Rattle.grammar.proofs.States.{Left, State, step}
 
+-- no byte above 7F is named
 abbrev pub plainSet : Set → Bool
 plainSet none = true
 plainSet D = true

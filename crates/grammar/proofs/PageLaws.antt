@@ -57,7 +57,8 @@ blob-page s n =
     take (l, inl h) = inl (l, h)
     take (l, inr h) = inr (l, h)
 
-without-underscore : (c : Class) (f : Form) → OneRule c → isEqual enough (formOf c but anything · lit "_" · anything) f ≡ true → Pages.SameWithoutUnderscore rules c f
+without-underscore : (c : Class) (f : Form) → OneRule c → isEqual enough (formOf c but anything · lit "_" · anything) f ≡ true
+    → Pages.SameWithoutUnderscore rules c f
 without-underscore c f r e s n =
     Iff·trans (both (one-rule rules c (formOf c) r s n) Iff·rfl)
     (Iff·trans (λ h. (h .0 .0, (h .0 .1, h .1 .1)), λ h. ((h .0, h .1 .0), (tt, h .1 .1)))

@@ -28,7 +28,7 @@ use Rattle.grammar.proofs.Lexemes.{next-gives}
 use Rattle.grammar.proofs.Theorems.{sound}
 
 -- a walk as the model computes it
-abbrev pub walk : ℕ → List ℕ → ℕ → List Answer
+abbrev walk : ℕ → List ℕ → ℕ → List Answer
 walk zero s at = []
 walk (suc n) s at = next rules s at ∷ walk n s (Texts.offset (next rules s at))
 
@@ -53,7 +53,7 @@ texts = every-row table computed
     every-row [] e = tt
     every-row (r ∷ l) e = (walk-walks (r .text) (r .answers) (r .from) (head-eq-of-cons-eq e), every-row l (tail-eq-of-cons-eq e))
 
--- A misspelt kind would have a number out of range: none of the table or the operators has.
+-- A misspelt kind would have a number out of range: none of the table has.
 abbrev known : Answer → Bool
 known (token k start n next) = ltb k (length kindNames)
 known (end at) = true
@@ -62,10 +62,6 @@ known (refusal k start n at) = leb k (length refusalNames)
 pub table-known : every (λ r. every known (r .answers)) table ≡ true
 unfolding table
 table-known = refl
-
-pub operators-known : every (λ o. leb 1 (o .kind) && leb (o .kind) 28) operators ≡ true
-unfolding operators
-operators-known = refl
 
 -- The table has a lexeme of each class.
 abbrev classOf : Found → List ℕ

@@ -55,14 +55,16 @@ beq-eq false true e = absurd (true≢false (sym e))
 beq-eq false false e = refl
 
 -- whether a lexeme's rule is that one, its first byte tells
-by-first : (b : ℕ) (s : List ℕ) (c : Class) (n : ℕ) → Stands rules c (b ∷ s) n → (k : ℕ) × (k < length rules) × (ruleAt rules k .class ≡ c) × (eqb k u ≡ holds U b)
+by-first : (b : ℕ) (s : List ℕ) (c : Class) (n : ℕ) → Stands rules c (b ∷ s) n
+    → (k : ℕ) × (k < length rules) × (ruleAt rules k .class ≡ c) × (eqb k u ≡ holds U b)
 unfolding isParted
 by-first b s c zero t = absurd (not-suc-le-zero (Lexemes.positive rules sound (b ∷ s) c 0 t))
 by-first b s c (suc n) t =
     let (l, (k, i, e, m, o)) = Lexemes.anywhere-meets rules sound c (b ∷ s) (suc n) .0 (Lexemes.stands-anywhere rules sound c (b ∷ s) (suc n) t) in
     let p = below-at isParted 129 parted (low b) (low-small b) in
     let q = subst (λ (q : State). every (agrees (low b)) q ≡ true) (Lexemes.low-at rules sound b []) p in
-    let (x, d, f) = some-every (agrees (low b)) (λ x. (x .place ≡ k) × Has (x .form) (take n s)) (step b (start rules)) q (after-in k (take n s) (step b (start rules)) .0 m) in
+    let h = after-in k (take n s) (step b (start rules)) .0 m in
+    let (x, d, f) = some-every (agrees (low b)) (λ x. (x .place ≡ k) × Has (x .form) (take n s)) (step b (start rules)) q h in
     let g = beq-eq (eqb (x .place) u) (holds U (low b)) f in
     (k, i, e, ap (λ (j : ℕ). eqb j u) (sym (d .0)) ∙ g ∙ low-set b U refl)
 

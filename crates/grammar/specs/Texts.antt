@@ -66,6 +66,16 @@ table =
     record { text = 0x0B ∷ 0x41 ∷ 0x20 ∷ []; from = 0; answers = refusal 1 0 2 2 ∷ tk "TK_NONE" 2 1 ∷ end 3 ∷ [] } ∷
     "SELECT 1.e-1;\n" gives
     (tk "TK_SELECT" 0 6 ∷ tk "TK_NONE" 6 1 ∷ tk "TK_FLOAT" 7 5 ∷ tk "TK_SEMI" 12 1 ∷ tk "TK_NONE" 13 1 ∷ end 14 ∷ []) ∷
+    -- every operator
+    "();+*%,~[]-/>|<&.:=" gives
+    (tk "TK_LP" 0 1 ∷ tk "TK_RP" 1 1 ∷ tk "TK_SEMI" 2 1 ∷ tk "TK_PLUS" 3 1 ∷ tk "TK_STAR" 4 1 ∷ tk "TK_REM" 5 1 ∷
+    tk "TK_COMMA" 6 1 ∷ tk "TK_BITNOT" 7 1 ∷ tk "TK_LBRACKET" 8 1 ∷ tk "TK_RBRACKET" 9 1 ∷ tk "TK_MINUS" 10 1 ∷
+    tk "TK_SLASH" 11 1 ∷ tk "TK_GT" 12 1 ∷ tk "TK_BITOR" 13 1 ∷ tk "TK_LT" 14 1 ∷ tk "TK_BITAND" 15 1 ∷
+    tk "TK_DOT" 16 1 ∷ tk "TK_COLON" 17 1 ∷ tk "TK_EQ" 18 1 ∷ end 19 ∷ []) ∷
+    "->->>==<=<<<>>=>>!=||&&@>" gives
+    (tk "TK_PTR" 0 2 ∷ tk "TK_PTR" 2 3 ∷ tk "TK_EQ" 5 2 ∷ tk "TK_LE" 7 2 ∷ tk "TK_LSHIFT" 9 2 ∷ tk "TK_NE" 11 2 ∷
+    tk "TK_GE" 13 2 ∷ tk "TK_RSHIFT" 15 2 ∷ tk "TK_NE" 17 2 ∷ tk "TK_CONCAT" 19 2 ∷ tk "TK_ARRAY_OVERLAP" 21 2 ∷
+    tk "TK_ARRAY_CONTAINS" 23 2 ∷ end 25 ∷ []) ∷
     -- easy to get wrong
     ":2" gives (tk "TK_COLON" 0 1 ∷ tk "TK_INTEGER" 1 1 ∷ end 2 ∷ []) ∷
     "'a''b'" gives (tk "TK_STRING" 0 6 ∷ end 6 ∷ []) ∷
