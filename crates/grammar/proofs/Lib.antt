@@ -12,4 +12,5 @@ pub mod Theorems
 pub mod Unrecognized
 pub mod Equal
 pub mod TextLaws
+pub mod Walk
 pub mod PageLaws

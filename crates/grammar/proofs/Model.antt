@@ -15,11 +15,11 @@ pub data Found : Type 0 where
   nothing : Found
   found : ℕ → ℕ → Found
 
-abbrev here : List ℕ → Found
+abbrev pub here : List ℕ → Found
 here [] = nothing
 here (k ∷ l) = found 0 k
 
-abbrev onward : Found → List ℕ → Found
+abbrev pub onward : Found → List ℕ → Found
 onward nothing l = here l
 onward (found n k) l = found (suc n) k
 

@@ -1,0 +1,299 @@
+-- Reading a text by hand: what is found from its start on is what is found from here on in a state, and a state's ways out are found by
+-- computing. Assumes nothing.
+use Prim.Native.Nat.{ℕ, zero, suc, _+_, _-_, _≤_, _<_}
+use Prim.Native.String.{String}
+use native.Mathlib.Omega.{arith}
+use native.Mathlib.Nat.{add-zero}
+use native.Mathlib.Numerals.{add-one}
+use borrow.Author.Tests.{ltb-true, ltb-false, le-ltb, ne-eqb, eqb-true, not-true, not-false}
+use mathlib.Core.Path.{_≡_, refl, sym, _∙_, ap, subst}
+use mathlib.Core.Bool.{Bool, true, false, not, cond, _&&_, _||_, true≢false}
+use mathlib.Core.List.{List, [], _∷_, _++_, append-assoc}
+use mathlib.Core.Logic.{inl, inr}
+use lib.Dec.{eqb, ltb}
+use lib.ListN.{length, take, drop, getD, drop-of-length-le, length-append}
+use lib.Seq.{drop-cons, drop-drop, take-append-seam}
+use Rattle.keywords.specs.Text.{bytes}
+use Rattle.keywords.proofs.Logic.{split, and-left, and-right, every}
+use Rattle.grammar.specs.Form.{Set, byte, no, _or_, holds}
+use Rattle.grammar.specs.Classes.{operators, rules}
+use Rattle.grammar.specs.Answers.{Answer, answer}
+use Rattle.grammar.specs.Longest.{Gives}
+use Rattle.grammar.specs.Runs.{sees, run, part, moved, optional, over}
+use Rattle.grammar.proofs.States.{State, ruleAt, start, step, after, met}
+use Rattle.grammar.proofs.Model.{Found, nothing, found, here, onward, scan, given, next}
+use Rattle.grammar.proofs.High.{plainSet, plain, low, low-set, low-step, low-small}
+use Rattle.grammar.proofs.Alike.{alike, alike-eq}
+use Rattle.grammar.proofs.Reach.{below, below-at}
+use Rattle.grammar.proofs.Lexemes.{next-gives}
+use Rattle.grammar.proofs.Theorems.{sound}
+
+-- what is left of the rules behind a text
+unfoldable pub behind : String → State
+behind t = after (start rules) (bytes t)
+
+-- a find, by the place where it ends
+abbrev pub ends : ℕ → Found → Found
+ends at nothing = nothing
+ends at (found n k) = found (at + n) k
+
+-- the lexeme of s from `from` on is what is found from `at` on in the state q
+pub record Reads (s : List ℕ) (from at : ℕ) (q : State) : Type 0 where
+  pub ordered : from ≤ at
+  pub same : ends from (scan (start rules) (drop from s)) ≡ ends at (scan q (drop at s))
+
+-- Each byte of the set leads from q to r.
+abbrev pub goes : State → Set → State → Bool
+goes q t r = every plain q && plainSet t && below 129 (λ b. let there = alike (step b q) r in not (holds t b) || there)
+
+or-right : (a b : Bool) → not a || b ≡ true → a ≡ true → b ≡ true
+or-right true b e h = e
+or-right false b e h = absurd (true≢false (sym h))
+
+pub goes-step : (q : State) (t : Set) (r : State) → goes q t r ≡ true → (b : ℕ) → holds t b ≡ true → step b q ≡ r
+goes-step q t r g b h =
+    let p = and-left (every plain q && plainSet t) (below 129 (λ b. not (holds t b) || alike (step b q) r)) g in
+    let l = below-at (λ b. not (holds t b) || alike (step b q) r) 129 (and-right (every plain q && plainSet t) _ g) (low b) (low-small b) in
+    let k = or-right (holds t (low b)) (alike (step (low b) q) r) l (low-set b t (and-right (every plain q) (plainSet t) p) ∙ h) in
+    sym (low-step b q (and-left (every plain q) (plainSet t) p)) ∙ alike-eq (step (low b) q) r k
+
+-- a rule is met
+abbrev pub meets : State → Bool
+meets q = ltb 0 (length (met q))
+
+dead : (s : List ℕ) → scan [] s ≡ nothing
+dead [] = refl
+dead (b ∷ s) = rw (dead s)
+
+abbrev isFound : Found → Bool
+isFound nothing = false
+isFound (found n k) = true
+
+here-found : (l : List ℕ) → ltb 0 (length l) ≡ true → isFound (here l) ≡ true
+here-found [] e = e
+here-found (k ∷ l) e = refl
+
+onward-found : (f : Found) (l : List ℕ) → ltb 0 (length l) ≡ true → isFound (onward f l) ≡ true
+onward-found nothing l e = here-found l e
+onward-found (found n k) l e = refl
+
+scan-found : (q : State) (s : List ℕ) → meets q ≡ true → isFound (scan q s) ≡ true
+scan-found q [] e = here-found (met q) e
+scan-found q (b ∷ s) e = onward-found (scan (step b q) s) (met q) e
+
+ends-onward : (at : ℕ) (f : Found) (l : List ℕ) → isFound f ≡ true → ends at (onward f l) ≡ ends (at + 1) f
+ends-onward at nothing l e = absurd (true≢false (sym e))
+ends-onward at (found n k) l e = ap (λ (m : ℕ). found m k) (omega arith)
+
+-- the text behind a byte that is seen
+pub seen-cons : (t : Set) (s : List ℕ) (at : ℕ) → sees t (drop at s) ≡ true → drop at s ≡ getD s at 0 ∷ drop (at + 1) s
+seen-cons t s at e =
+    split (ltb at (length s))
+    (λ l. rw add-one (drop-cons s at 0 (ltb-true at (length s) l)))
+    (λ l. absurd (true≢false (sym e ∙ ap (sees t) (drop-of-length-le s (ltb-false at (length s) l)))))
+
+pub seen-in : (t : Set) (s : List ℕ) (at : ℕ) → sees t (drop at s) ≡ true → at < length s
+seen-in t s at e =
+    split (ltb at (length s))
+    (λ l. ltb-true at (length s) l)
+    (λ l. absurd (true≢false (sym e ∙ ap (sees t) (drop-of-length-le s (ltb-false at (length s) l)))))
+
+pub seen-holds : (t : Set) (s : List ℕ) (at : ℕ) → sees t (drop at s) ≡ true → holds t (getD s at 0) ≡ true
+seen-holds t s at e = sym (ap (sees t) (seen-cons t s at e)) ∙ e
+
+-- nothing is read yet
+pub begin : (s : List ℕ) (at : ℕ) → Reads s at at (start rules)
+begin s at = record { ordered = omega arith; same = refl }
+
+-- a byte is read
+ends-step : (q : State) (t : Set) (r : State) → goes q t r ≡ true → meets r ≡ true → (at b : ℕ) (l : List ℕ) → holds t b ≡ true
+    → ends at (scan q (b ∷ l)) ≡ ends (at + 1) (scan r l)
+ends-step q t r g m at b l h =
+    ap (λ (p : State). ends at (onward (scan p l) (met q))) (goes-step q t r g b h) ∙ ends-onward at (scan r l) (met q) (scan-found r l m)
+
+-- the run of a set that leads back to the state
+ends-run : (q : State) (t : Set) → goes q t q ≡ true → meets q ≡ true → (l : List ℕ) (at : ℕ) → ends at (scan q l) ≡ ends (at + run t l) (scan q (drop (run t l) l))
+unfolding run
+ends-run q t g m [] at = rw add-zero
+ends-run q t g m (b ∷ l) at =
+    split (holds t b)
+    (λ e. let h = e in rw e (ends-step q t q g m at b l h ∙ ends-run q t g m l (at + 1) ∙ ap (λ (n : ℕ). ends n (scan q (drop (run t l) l))) (omega arith)))
+    (λ e. rw (e, add-zero))
+
+run-stops : (t : Set) (l : List ℕ) → sees t (drop (run t l) l) ≡ false
+unfolding run
+run-stops t [] = refl
+run-stops t (b ∷ l) = split (holds t b) (λ e. rw e (run-stops t l)) (λ e. let h = e in rw e h)
+
+-- the places that a cursor comes to
+pub moved-one : (t : Set) (s : List ℕ) (at : ℕ) → sees t (drop at s) ≡ true → moved at s ≡ at + 1
+unfolding moved
+moved-one t s at e = rw (seen-cons t s at e)
+
+pub optional-one : (t : Set) (s : List ℕ) (at : ℕ) → sees t (drop at s) ≡ true → optional t at s ≡ at + 1
+unfolding optional
+optional-one t s at e = rw e
+
+pub optional-none : (t : Set) (s : List ℕ) (at : ℕ) → sees t (drop at s) ≡ false → optional t at s ≡ at
+unfolding optional
+optional-none t s at e = rw e
+
+pub over-stops : (t : Set) (s : List ℕ) (at : ℕ) → sees t (drop (over t at s) s) ≡ false
+unfolding over
+over-stops t s at = rw (← drop-drop (run t (drop at s)) at s) (run-stops t (drop at s))
+
+pub over-on : (t : Set) (s : List ℕ) (at : ℕ) → at ≤ over t at s
+unfolding over
+over-on t s at = omega arith
+
+-- two states from which the bytes of a set lead to the same
+abbrev pub joins : State → State → Set → Bool
+joins q r t = every plain q && every plain r && plainSet t && below 129 (λ b. let same = alike (step b q) (step b r) in not (holds t b) || same)
+
+joins-step : (q r : State) (t : Set) → joins q r t ≡ true → (b : ℕ) → holds t b ≡ true → step b q ≡ step b r
+joins-step q r t g b h =
+    let a = every plain q && every plain r && plainSet t in
+    let test : ℕ → Bool = λ b. not (holds t b) || alike (step b q) (step b r) in
+    let p = and-left a (below 129 test) g in
+    let l = below-at test 129 (and-right a (below 129 test) g) (low b) (low-small b) in
+    let k = or-right (holds t (low b)) (alike (step (low b) q) (step (low b) r)) l (low-set b t (and-right (every plain q && every plain r) (plainSet t) p) ∙ h) in
+    let e = and-left (every plain q && every plain r) (plainSet t) p in
+    sym (low-step b q (and-left (every plain q) (every plain r) e)) ∙ alike-eq (step (low b) q) (step (low b) r) k ∙ low-step b r (and-right (every plain q) (every plain r) e)
+
+no-not : (t : Set) (b : ℕ) → holds (no t) b ≡ false → holds t b ≡ true
+no-not t b e = not-false (holds t b) e
+
+scan-join : (q r : State) (t : Set) → joins q r t ≡ true → met q ≡ met r → (l : List ℕ) → sees (no t) l ≡ false → scan q l ≡ scan r l
+scan-join q r t g m [] e = ap here m
+scan-join q r t g m (b ∷ l) e =
+    ap (λ (p : State). onward (scan p l) (met q)) (joins-step q r t g b (no-not t b e)) ∙ ap (onward (scan (step b r) l)) m
+
+-- the lexeme of s from `from` on ends at `at`, and the k-th rule is met there
+pub record Ends (s : List ℕ) (from at k : ℕ) : Type 0 where
+  pub ordered : from ≤ at
+  pub same : ends from (scan (start rules) (drop from s)) ≡ found at k
+
+-- no byte of the set follows, and every other ends it
+scan-stop : (q : State) (t : Set) (k : ℕ) → goes q (no t) [] ≡ true → met q ≡ k ∷ [] → (l : List ℕ) → sees t l ≡ false → scan q l ≡ found 0 k
+scan-stop q t k g m [] e = ap here m
+scan-stop q t k g m (b ∷ l) e =
+    ap (λ (p : State). onward (scan p l) (met q)) (goes-step q (no t) [] g b (ap not e)) ∙ rw (dead l) (ap here m)
+
+module _ {s : List ℕ} {from at : ℕ} {q : State} (p : Reads s from at q) where
+  pub reads-step : (t : Set) (r : State) → goes q t r && meets r ≡ true → sees t (drop at s) ≡ true → Reads s from (at + 1) r
+  reads-step t r g e =
+      let d = p .ordered in
+      record {
+        ordered = omega arith;
+        same = p .same ∙ ap (λ (l : List ℕ). ends at (scan q l)) (seen-cons t s at e)
+            ∙ ends-step q t r (and-left (goes q t r) (meets r) g) (and-right (goes q t r) (meets r) g) at (getD s at 0) (drop (at + 1) s) (seen-holds t s at e);
+      }
+
+  pub reads-over : (t : Set) → goes q t q && meets q ≡ true → Reads s from (over t at s) q
+  unfolding over
+  reads-over t g =
+      let d = p .ordered in
+      record {
+        ordered = omega arith;
+        same = p .same ∙ ends-run q t (and-left (goes q t q) (meets q) g) (and-right (goes q t q) (meets q) g) (drop at s) at
+            ∙ ap (λ (l : List ℕ). ends (at + run t (drop at s)) (scan q l)) (drop-drop (run t (drop at s)) at s);
+      }
+
+  pub reads-join : (r : State) (t : Set) → joins q r t ≡ true → met q ≡ met r → sees (no t) (drop at s) ≡ false → Reads s from at r
+  reads-join r t g m e = record { ordered = p .ordered; same = p .same ∙ ap (ends at) (scan-join q r t g m (drop at s) e) }
+
+  pub reads-found : (k : ℕ) → scan q (drop at s) ≡ found 0 k → Ends s from at k
+  reads-found k e = record { ordered = p .ordered; same = p .same ∙ ap (ends at) e ∙ ap (λ (n : ℕ). found n k) (omega arith) }
+
+  pub reads-stop : (t : Set) (k : ℕ) → goes q (no t) [] ≡ true → met q ≡ k ∷ [] → sees t (drop at s) ≡ false → Ends s from at k
+  reads-stop t k g m e = reads-found k (scan-stop q t k g m (drop at s) e)
+
+-- Every byte of t is one of u.
+abbrev pub inside : Set → Set → Bool
+inside t u = plainSet t && plainSet u && below 129 (λ b. not (holds t b) || holds u b)
+
+inside-holds : (t u : Set) → inside t u ≡ true → (b : ℕ) → holds t b ≡ true → holds u b ≡ true
+inside-holds t u g b h =
+    let p = and-left (plainSet t && plainSet u) (below 129 (λ b. not (holds t b) || holds u b)) g in
+    let l = below-at (λ b. not (holds t b) || holds u b) 129 (and-right (plainSet t && plainSet u) _ g) (low b) (low-small b) in
+    sym (low-set b u (and-right (plainSet t) (plainSet u) p))
+    ∙ or-right (holds t (low b)) (holds u (low b)) l (low-set b t (and-left (plainSet t) (plainSet u) p) ∙ h)
+
+pub inside-sees : (t u : Set) → inside t u ≡ true → (l : List ℕ) → sees t l ≡ true → sees u l ≡ true
+inside-sees t u g [] e = e
+inside-sees t u g (b ∷ l) e = inside-holds t u g b e
+
+pub inside-misses : (t u : Set) → inside t u ≡ true → (l : List ℕ) → sees u l ≡ false → sees t l ≡ false
+inside-misses t u g l e = split (sees t l) (λ h. absurd (true≢false (sym (inside-sees t u g l h) ∙ e))) (λ h. h)
+
+pub misses-or : (t u : Set) (l : List ℕ) → sees t l ≡ false → sees u l ≡ false → sees (t or u) l ≡ false
+misses-or t u [] d e = refl
+misses-or t u (b ∷ l) d e = rw (d, e)
+
+-- What ends there is the lexeme, and its class gives the answer.
+empty-text : scan (start rules) [] ≡ nothing
+unfolding rules operators
+empty-text = refl
+
+ends-found : (from at k : ℕ) (f : Found) → ends from f ≡ found at k → f ≡ found (at - from) k
+ends-found from at k nothing e = absurd (let z : _≡_ {A = Bool} true false = cc in true≢false z)
+ends-found from at k (found n j) e =
+    let h : from + n ≡ at = cc in
+    let i : j ≡ k = cc in
+    rw i (ap (λ (m : ℕ). found m k) (omega arith))
+
+pub ends-gives : {s : List ℕ} {from at k : ℕ} → Ends s from at k → Gives rules s from (answer (ruleAt rules k .class) from (part s from at))
+ends-gives {s} {from} {at} {k} e =
+    let f = ends-found from at k (scan (start rules) (drop from s)) (e .same) in
+    split (ltb from (length s))
+    (λ l. let h = ltb-true from (length s) l in
+    subst (Gives rules s from)
+    (rw (le-ltb (length s) from (omega arith), ne-eqb from (length s) (omega arith)) (ap (given rules (drop from s) from) f))
+    (next-gives rules sound s from))
+    (λ l. let d = drop-of-length-le s (ltb-false from (length s) l) in
+    absurd (let z : nothing ≡ found (at - from) k = sym empty-text ∙ ap (scan (start rules)) (sym d) ∙ f in let y : _≡_ {A = Bool} true false = cc in true≢false y))
+
+-- The text has w from `from` to `at`.
+pub record Spelled (s : List ℕ) (from at : ℕ) (w : List ℕ) : Type 0 where
+  pub long : at ≡ from + length w
+  pub text : drop from s ≡ w ++ drop at s
+
+-- A rule is met behind each of the bytes.
+abbrev pub along : State → List ℕ → Bool
+along q [] = true
+along q (b ∷ w) = meets (step b q) && along (step b q) w
+
+ends-along : (w : List ℕ) (q : State) → along q w ≡ true → (l : List ℕ) (at : ℕ) → ends at (scan q (w ++ l)) ≡ ends (at + length w) (scan (after q w) l)
+ends-along [] q a l at = rw add-zero
+ends-along (b ∷ w) q a l at =
+    ends-onward at (scan (step b q) (w ++ l)) (met q) (scan-found (step b q) (w ++ l) (and-left (meets (step b q)) (along (step b q) w) a))
+    ∙ ends-along w (step b q) (and-right (meets (step b q)) (along (step b q) w) a) l (at + 1)
+    ∙ ap (λ (n : ℕ). ends n (scan (after (step b q) w) l)) (omega arith)
+
+module _ {s : List ℕ} {from at : ℕ} {w : List ℕ} (p : Spelled s from at w) where
+  pub spelled-reads : along (start rules) w ≡ true → Reads s from at (after (start rules) w)
+  spelled-reads a =
+      let l = p .long in
+      record {
+        ordered = omega arith;
+        same = ap (λ (u : List ℕ). ends from (scan (start rules) u)) (p .text) ∙ ends-along w (start rules) a (drop at s) from
+            ∙ ap (λ (n : ℕ). ends n (scan (after (start rules) w) (drop at s))) (sym l);
+      }
+
+  pub spelled-part : part s from at ≡ w
+  spelled-part =
+      let l = p .long in
+      let d : at - from ≡ length w = omega arith in
+      rw (d, p .text, take-append-seam)
+
+  pub spelled-more : (b : ℕ) → sees (byte b) (drop at s) ≡ true → Spelled s from (at + 1) (w ++ b ∷ [])
+  spelled-more b e =
+      let l = p .long in
+      let h : getD s at 0 ≡ b = eqb-true (getD s at 0) b (seen-holds (byte b) s at e) in
+      record {
+        long = rw (length-append w (b ∷ [])) (omega arith);
+        text = p .text ∙ rw (seen-cons (byte b) s at e, h) (sym (append-assoc w (b ∷ []) (drop (at + 1) s)));
+      }
+
+pub spelled-none : (s : List ℕ) (at : ℕ) → Spelled s at at []
+spelled-none s at = record { long = sym (add-zero at); text = refl }

@@ -1,0 +1,30 @@
+-- What a text begins with, and its parts. Assumes nothing.
+use Prim.Native.Nat.{ℕ, suc, _+_, _-_}
+use mathlib.Core.Bool.{Bool, false, cond}
+use mathlib.Core.List.{List, [], _∷_}
+use lib.ListN.{length, take, drop}
+use Rattle.grammar.specs.Form.{Set, holds}
+
+-- it begins with a byte of the set
+abbrev pub sees : Set → List ℕ → Bool
+sees t [] = false
+sees t (b ∷ s) = holds t b
+
+-- with so many bytes of the set
+unfoldable pub run : Set → List ℕ → ℕ
+run t [] = 0
+run t (b ∷ s) = cond (holds t b) (suc (run t s)) 0
+
+-- its bytes from a place to before another
+abbrev pub part : List ℕ → ℕ → ℕ → List ℕ
+part s from to = take (to - from) (drop from s)
+
+-- the place behind the byte at `at`, if there is one; behind the one there if it is in the set; and behind the run of the set
+unfoldable pub moved : ℕ → List ℕ → ℕ
+moved at s = at + length (take 1 (drop at s))
+
+unfoldable pub optional : Set → ℕ → List ℕ → ℕ
+optional t at s = cond (sees t (drop at s)) (at + 1) at
+
+unfoldable pub over : Set → ℕ → List ℕ → ℕ
+over t at s = at + run t (drop at s)
