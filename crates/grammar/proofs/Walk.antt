@@ -12,16 +12,16 @@ use mathlib.Core.List.{List, [], _∷_, _++_, append-assoc}
 use mathlib.Core.Logic.{inl, inr}
 use lib.Dec.{eqb, ltb}
 use lib.ListN.{length, take, drop, getD, drop-of-length-le, length-append}
-use lib.Seq.{drop-cons, drop-drop, take-append-seam}
+use lib.Seq.{drop-cons, drop-drop, take-append-seam, length-take-le}
 use Rattle.keywords.specs.Text.{bytes}
 use Rattle.keywords.proofs.Logic.{split, and-left, and-right, every}
-use Rattle.grammar.specs.Form.{Set, byte, no, _or_, holds}
+use Rattle.grammar.specs.Form.{Set, none, byte, no, _or_, holds}
 use Rattle.grammar.specs.Classes.{operators, rules}
 use Rattle.grammar.specs.Answers.{Answer, answer}
 use Rattle.grammar.specs.Longest.{Gives}
 use Rattle.grammar.specs.Runs.{sees, run, part, moved, optional, over}
 use Rattle.grammar.proofs.States.{State, ruleAt, start, step, after, met}
-use Rattle.grammar.proofs.Model.{Found, nothing, found, here, onward, scan, given, next}
+use Rattle.grammar.proofs.Model.{Found, nothing, found, here, onward, scan, given, next, Right, scan-right}
 use Rattle.grammar.proofs.High.{plainSet, plain, low, low-set, low-step, low-small}
 use Rattle.grammar.proofs.Alike.{alike, alike-eq}
 use Rattle.grammar.proofs.Reach.{below, below-at}
@@ -87,22 +87,26 @@ ends-onward at (found n k) l e = ap (λ (m : ℕ). found m k) (omega arith)
 
 -- the text behind a byte that is seen
 pub seen-cons : (t : Set) (s : List ℕ) (at : ℕ) → sees t (drop at s) ≡ true → drop at s ≡ getD s at 0 ∷ drop (at + 1) s
+unfolding sees
 seen-cons t s at e =
     split (ltb at (length s))
     (λ l. rw add-one (drop-cons s at 0 (ltb-true at (length s) l)))
     (λ l. absurd (true≢false (sym e ∙ ap (sees t) (drop-of-length-le s (ltb-false at (length s) l)))))
 
 pub seen-in : (t : Set) (s : List ℕ) (at : ℕ) → sees t (drop at s) ≡ true → at < length s
+unfolding sees
 seen-in t s at e =
     split (ltb at (length s))
     (λ l. ltb-true at (length s) l)
     (λ l. absurd (true≢false (sym e ∙ ap (sees t) (drop-of-length-le s (ltb-false at (length s) l)))))
 
 pub seen-holds : (t : Set) (s : List ℕ) (at : ℕ) → sees t (drop at s) ≡ true → holds t (getD s at 0) ≡ true
+unfolding sees
 seen-holds t s at e = sym (ap (sees t) (seen-cons t s at e)) ∙ e
 
 -- nothing is read yet
-pub begin : (s : List ℕ) (at : ℕ) → Reads s at at (start rules)
+pub begin : (s : List ℕ) (at : ℕ) → Reads s at at (behind "")
+unfolding behind
 begin s at = record { ordered = omega arith; same = refl }
 
 -- a byte is read
@@ -121,7 +125,7 @@ ends-run q t g m (b ∷ l) at =
     (λ e. rw (e, add-zero))
 
 run-stops : (t : Set) (l : List ℕ) → sees t (drop (run t l) l) ≡ false
-unfolding run
+unfolding sees run
 run-stops t [] = refl
 run-stops t (b ∷ l) = split (holds t b) (λ e. rw e (run-stops t l)) (λ e. let h = e in rw e h)
 
@@ -129,6 +133,14 @@ run-stops t (b ∷ l) = split (holds t b) (λ e. rw e (run-stops t l)) (λ e. le
 pub moved-one : (t : Set) (s : List ℕ) (at : ℕ) → sees t (drop at s) ≡ true → moved at s ≡ at + 1
 unfolding moved
 moved-one t s at e = rw (seen-cons t s at e)
+
+pub moved-up : (s : List ℕ) (at d : ℕ) → d ≡ moved at s → at ≤ d
+unfolding moved
+moved-up s at d e = omega arith
+
+pub moved-end : (s : List ℕ) (at : ℕ) → drop at s ≡ [] → moved at s ≡ at
+unfolding moved
+moved-end s at e = rw (e, add-zero)
 
 pub optional-one : (t : Set) (s : List ℕ) (at : ℕ) → sees t (drop at s) ≡ true → optional t at s ≡ at + 1
 unfolding optional
@@ -138,13 +150,13 @@ pub optional-none : (t : Set) (s : List ℕ) (at : ℕ) → sees t (drop at s) �
 unfolding optional
 optional-none t s at e = rw e
 
-pub over-stops : (t : Set) (s : List ℕ) (at : ℕ) → sees t (drop (over t at s) s) ≡ false
+pub over-stops : (t : Set) (s : List ℕ) (at d : ℕ) → d ≡ over t at s → sees t (drop d s) ≡ false
 unfolding over
-over-stops t s at = rw (← drop-drop (run t (drop at s)) at s) (run-stops t (drop at s))
+over-stops t s at d e = rw (e, ← drop-drop (run t (drop at s)) at s) (run-stops t (drop at s))
 
-pub over-on : (t : Set) (s : List ℕ) (at : ℕ) → at ≤ over t at s
+pub over-on : (t : Set) (s : List ℕ) (at d : ℕ) → d ≡ over t at s → at ≤ d
 unfolding over
-over-on t s at = omega arith
+over-on t s at d e = omega arith
 
 -- two states from which the bytes of a set lead to the same
 abbrev pub joins : State → State → Set → Bool
@@ -164,6 +176,7 @@ no-not : (t : Set) (b : ℕ) → holds (no t) b ≡ false → holds t b ≡ true
 no-not t b e = not-false (holds t b) e
 
 scan-join : (q r : State) (t : Set) → joins q r t ≡ true → met q ≡ met r → (l : List ℕ) → sees (no t) l ≡ false → scan q l ≡ scan r l
+unfolding sees
 scan-join q r t g m [] e = ap here m
 scan-join q r t g m (b ∷ l) e =
     ap (λ (p : State). onward (scan p l) (met q)) (joins-step q r t g b (no-not t b e)) ∙ ap (onward (scan (step b r) l)) m
@@ -175,12 +188,13 @@ pub record Ends (s : List ℕ) (from at k : ℕ) : Type 0 where
 
 -- no byte of the set follows, and every other ends it
 scan-stop : (q : State) (t : Set) (k : ℕ) → goes q (no t) [] ≡ true → met q ≡ k ∷ [] → (l : List ℕ) → sees t l ≡ false → scan q l ≡ found 0 k
+unfolding sees
 scan-stop q t k g m [] e = ap here m
 scan-stop q t k g m (b ∷ l) e =
     ap (λ (p : State). onward (scan p l) (met q)) (goes-step q (no t) [] g b (ap not e)) ∙ rw (dead l) (ap here m)
 
 module _ {s : List ℕ} {from at : ℕ} {q : State} (p : Reads s from at q) where
-  pub reads-step : (t : Set) (r : State) → goes q t r && meets r ≡ true → sees t (drop at s) ≡ true → Reads s from (at + 1) r
+  reads-step : (t : Set) (r : State) → goes q t r && meets r ≡ true → sees t (drop at s) ≡ true → Reads s from (at + 1) r
   reads-step t r g e =
       let d = p .ordered in
       record {
@@ -189,7 +203,11 @@ module _ {s : List ℕ} {from at : ℕ} {q : State} (p : Reads s from at q) wher
             ∙ ends-step q t r (and-left (goes q t r) (meets r) g) (and-right (goes q t r) (meets r) g) at (getD s at 0) (drop (at + 1) s) (seen-holds t s at e);
       }
 
-  pub reads-over : (t : Set) → goes q t q && meets q ≡ true → Reads s from (over t at s) q
+  -- a byte is eaten
+  pub reads-eat : (t : Set) (r : State) → goes q t r && meets r ≡ true → sees t (drop at s) ≡ true → {d : ℕ} → d ≡ moved at s → Reads s from d r
+  reads-eat t r g e f = subst (λ (n : ℕ). Reads s from n r) (sym (f ∙ moved-one t s at e)) (reads-step t r g e)
+
+  reads-over : (t : Set) → goes q t q && meets q ≡ true → Reads s from (over t at s) q
   unfolding over
   reads-over t g =
       let d = p .ordered in
@@ -199,6 +217,10 @@ module _ {s : List ℕ} {from at : ℕ} {q : State} (p : Reads s from at q) wher
             ∙ ap (λ (l : List ℕ). ends (at + run t (drop at s)) (scan q l)) (drop-drop (run t (drop at s)) at s);
       }
 
+  -- a run is eaten
+  pub reads-while : (t : Set) → goes q t q && meets q ≡ true → {d : ℕ} → d ≡ over t at s → Reads s from d q
+  reads-while t g f = subst (λ (n : ℕ). Reads s from n q) (sym f) (reads-over t g)
+
   pub reads-join : (r : State) (t : Set) → joins q r t ≡ true → met q ≡ met r → sees (no t) (drop at s) ≡ false → Reads s from at r
   reads-join r t g m e = record { ordered = p .ordered; same = p .same ∙ ap (ends at) (scan-join q r t g m (drop at s) e) }
 
@@ -207,6 +229,10 @@ module _ {s : List ℕ} {from at : ℕ} {q : State} (p : Reads s from at q) wher
 
   pub reads-stop : (t : Set) (k : ℕ) → goes q (no t) [] ≡ true → met q ≡ k ∷ [] → sees t (drop at s) ≡ false → Ends s from at k
   reads-stop t k g m e = reads-found k (scan-stop q t k g m (drop at s) e)
+
+  -- nothing follows
+  pub reads-end : (k : ℕ) → met q ≡ k ∷ [] → drop at s ≡ [] → Ends s from at k
+  reads-end k m e = reads-found k (ap (scan q) e ∙ ap here m)
 
 -- Every byte of t is one of u.
 abbrev pub inside : Set → Set → Bool
@@ -220,15 +246,27 @@ inside-holds t u g b h =
     ∙ or-right (holds t (low b)) (holds u (low b)) l (low-set b t (and-left (plainSet t) (plainSet u) p) ∙ h)
 
 pub inside-sees : (t u : Set) → inside t u ≡ true → (l : List ℕ) → sees t l ≡ true → sees u l ≡ true
+unfolding sees
 inside-sees t u g [] e = e
 inside-sees t u g (b ∷ l) e = inside-holds t u g b e
 
 pub inside-misses : (t u : Set) → inside t u ≡ true → (l : List ℕ) → sees u l ≡ false → sees t l ≡ false
 inside-misses t u g l e = split (sees t l) (λ h. absurd (true≢false (sym (inside-sees t u g l h) ∙ e))) (λ h. h)
 
+pub misses-none : (l : List ℕ) → sees none l ≡ false
+unfolding sees
+misses-none [] = refl
+misses-none (b ∷ l) = refl
+
 pub misses-or : (t u : Set) (l : List ℕ) → sees t l ≡ false → sees u l ≡ false → sees (t or u) l ≡ false
+unfolding sees
 misses-or t u [] d e = refl
 misses-or t u (b ∷ l) d e = rw (d, e)
+
+pub sees-no : (t : Set) (l : List ℕ) → sees t l ≡ true → sees (no t) l ≡ false
+unfolding sees
+sees-no t [] e = refl
+sees-no t (b ∷ l) e = ap not e
 
 -- What ends there is the lexeme, and its class gives the answer.
 empty-text : scan (start rules) [] ≡ nothing
@@ -252,6 +290,12 @@ ends-gives {s} {from} {at} {k} e =
     (next-gives rules sound s from))
     (λ l. let d = drop-of-length-le s (ltb-false from (length s) l) in
     absurd (let z : nothing ≡ found (at - from) k = sym empty-text ∙ ap (scan (start rules)) (sym d) ∙ f in let y : _≡_ {A = Bool} true false = cc in true≢false y))
+
+pub ends-long : {s : List ℕ} {from at k : ℕ} → Ends s from at k → length (part s from at) ≡ at - from
+ends-long {s} {from} {at} {k} e =
+    let f = ends-found from at k (scan (start rules) (drop from s)) (e .same) in
+    let r = subst (Right (start rules) (drop from s)) f (scan-right (drop from s) (start rules)) in
+    length-take-le (at - from) (drop from s) (r .0)
 
 -- The text has w from `from` to `at`.
 pub record Spelled (s : List ℕ) (from at : ℕ) (w : List ℕ) : Type 0 where
@@ -286,8 +330,8 @@ module _ {s : List ℕ} {from at : ℕ} {w : List ℕ} (p : Spelled s from at w)
       let d : at - from ≡ length w = omega arith in
       rw (d, p .text, take-append-seam)
 
-  pub spelled-more : (b : ℕ) → sees (byte b) (drop at s) ≡ true → Spelled s from (at + 1) (w ++ b ∷ [])
-  spelled-more b e =
+  one-more : (b : ℕ) → sees (byte b) (drop at s) ≡ true → Spelled s from (at + 1) (w ++ b ∷ [])
+  one-more b e =
       let l = p .long in
       let h : getD s at 0 ≡ b = eqb-true (getD s at 0) b (seen-holds (byte b) s at e) in
       record {
@@ -295,5 +339,19 @@ module _ {s : List ℕ} {from at : ℕ} {w : List ℕ} (p : Spelled s from at w)
         text = p .text ∙ rw (seen-cons (byte b) s at e, h) (sym (append-assoc w (b ∷ []) (drop (at + 1) s)));
       }
 
+  pub spelled-more : (b : ℕ) → sees (byte b) (drop at s) ≡ true → {d : ℕ} → d ≡ moved at s → Spelled s from d (w ++ b ∷ [])
+  spelled-more b e f = subst (λ (n : ℕ). Spelled s from n (w ++ b ∷ [])) (sym (f ∙ moved-one (byte b) s at e)) (one-more b e)
+
+  pub spelled-up : from ≤ at
+  spelled-up = let l = p .long in omega arith
+
 pub spelled-none : (s : List ℕ) (at : ℕ) → Spelled s at at []
 spelled-none s at = record { long = sym (add-zero at); text = refl }
+
+pub spelled-first : (b : ℕ) (s : List ℕ) (at : ℕ) → sees (byte b) (drop at s) ≡ true → {d : ℕ} → d ≡ moved at s → Spelled s at d (b ∷ [])
+spelled-first b s at e f = spelled-more (spelled-none s at) b e f
+
+pub at-end : (t : Set) (l : List ℕ) → sees t l ≡ false → sees (no t) l ≡ false → l ≡ []
+unfolding sees
+at-end t [] d e = refl
+at-end t (b ∷ l) d e = absurd (true≢false (sym (ap not d) ∙ e))

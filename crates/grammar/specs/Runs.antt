@@ -6,7 +6,7 @@ use lib.ListN.{length, take, drop}
 use Rattle.grammar.specs.Form.{Set, holds}
 
 -- it begins with a byte of the set
-abbrev pub sees : Set → List ℕ → Bool
+unfoldable pub sees : Set → List ℕ → Bool
 sees t [] = false
 sees t (b ∷ s) = holds t b
 

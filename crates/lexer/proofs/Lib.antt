@@ -1,0 +1,4 @@
+pub mod EatLaws
+pub mod GroupLaws
+pub mod AnswerLaws
+pub mod OperatorLaws

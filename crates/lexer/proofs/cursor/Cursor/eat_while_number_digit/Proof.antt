@@ -1,0 +1,110 @@
+-- `lexer::cursor::Cursor::eat_while_number_digit` meets its contract. The loop's invariant: from this group the run ends as it ends from
+-- the first. Assumes nothing.
+use Prim.Native.Nat.{_-_}
+use native.Mathlib.Omega.{arith}
+use mathlib.Core.Path.{_∙_, _≡_, refl, sym}
+use lib.ListN.{drop, length}
+use borrow.Author.Needs.{needs}
+use borrow.Author.Tests.{not-false, not-true}
+use Rattle.grammar.specs.Form.{D}
+use Rattle.grammar.proofs.Walk.{moved-one, over-on, seen-in}
+use Rattle.lexer.specs.Eaten.{groups}
+use Rattle.lexer.proofs.GroupLaws.{group-bad, group-more, group-read}
+use Rattle.lexer.proofs.cursor.Cursor.eat_while_number_digit.Statement.{statement}
+use Rattle.lexer.proofs.cursor.Cursor.eat_while_number_digit.Tie as tie
+
+abbrev Inv-loop : tie.InvT-loop
+Inv-loop text start₀ start = groups D (start₀ .at) (start₀ .at) (drop (start₀ .at) text) ≡ groups D (start .at) (start .at) (drop (start .at) text)
+
+abbrev μ-loop : tie.MeasureT-loop
+μ-loop text start₀ start = length text - start .at
+
+loop-holds : tie.Need-loop-holds Inv-loop μ-loop
+loop-holds c = refl
+
+eat-while-digit-requires : tie.Need-eat-while-digit-requires Inv-loop μ-loop
+eat-while-digit-requires c κs = search needs
+
+sees-requires : tie.Need-sees-requires Inv-loop μ-loop
+sees-requires c κs = search needs
+
+returns : tie.Need-returns Inv-loop μ-loop
+returns c =
+    let if1 = c .if1 in
+    let sees = c .before .sees in
+    let eat-while-digit = c .before .before .eat-while-digit in
+    let loop = c .before .before .before .loop in
+    sym (loop .inv ∙ group-read D _ (loop .start .at) _ (eat-while-digit .ensures) (sym (sees .ensures) ∙ not-true _ (if1 .taken)))
+
+eat-requires : tie.Need-eat-requires Inv-loop μ-loop
+eat-requires c κs = search needs
+
+returns-2 : tie.Need-returns-2 Inv-loop μ-loop
+returns-2 c =
+    let if2 = c .if2 in
+    let eat = c .before .before .before .eat in
+    let if1 = c .before .before .before .before .if1 in
+    let sees = c .before .before .before .before .before .sees in
+    let eat-while-digit = c .before .before .before .before .before .before .eat-while-digit in
+    let seen = sym (sees .ensures) ∙ not-false _ (if1 .left) in
+    let next = eat .ensures ∙ moved-one _ _ _ seen in
+    absurd (omega (arith, if2 .taken, next, eat-while-digit .ensures, over-on _ _ _ _ (eat-while-digit .ensures)))
+
+sees-digit-requires : tie.Need-sees-digit-requires Inv-loop μ-loop
+sees-digit-requires c κs = search needs
+
+returns-3 : tie.Need-returns-3 Inv-loop μ-loop
+returns-3 c =
+    let if3 = c .if3 in
+    let sees-digit = c .before .sees-digit in
+    let eat = c .before .before .before .before .before .eat in
+    let if1 = c .before .before .before .before .before .before .if1 in
+    let sees = c .before .before .before .before .before .before .before .sees in
+    let eat-while-digit = c .before .before .before .before .before .before .before .before .eat-while-digit in
+    let loop = c .before .before .before .before .before .before .before .before .before .loop in
+    let seen = sym (sees .ensures) ∙ not-false _ (if1 .left) in
+    let next = eat .ensures ∙ moved-one _ _ _ seen in
+    let missed = sym (sees-digit .ensures) ∙ not-true _ (if3 .taken) in
+    sym (loop .inv ∙ group-bad D _ (loop .start .at) _ (eat-while-digit .ensures) seen _ next missed)
+
+loop-less : tie.Need-loop-less Inv-loop μ-loop
+loop-less c =
+    let eat = c .before .before .before .before .before .eat in
+    let if1 = c .before .before .before .before .before .before .if1 in
+    let sees = c .before .before .before .before .before .before .before .sees in
+    let eat-while-digit = c .before .before .before .before .before .before .before .before .eat-while-digit in
+    let args = c .before .before .before .before .before .before .before .before .before .before .before .args in
+    let seen = sym (sees .ensures) ∙ not-false _ (if1 .left) in
+    let next = eat .ensures ∙ moved-one _ _ _ seen in
+    omega (arith, next, eat-while-digit .ensures, over-on _ _ _ _ (eat-while-digit .ensures), seen-in _ (args .text .now) (eat-while-digit .result .at) seen)
+
+loop-again : tie.Need-loop-again Inv-loop μ-loop
+loop-again c =
+    let if3 = c .if3 in
+    let sees-digit = c .before .sees-digit in
+    let eat = c .before .before .before .before .before .eat in
+    let if1 = c .before .before .before .before .before .before .if1 in
+    let sees = c .before .before .before .before .before .before .before .sees in
+    let eat-while-digit = c .before .before .before .before .before .before .before .before .eat-while-digit in
+    let loop = c .before .before .before .before .before .before .before .before .before .loop in
+    let seen = sym (sees .ensures) ∙ not-false _ (if1 .left) in
+    let next = eat .ensures ∙ moved-one _ _ _ seen in
+    let more = sym (sees-digit .ensures) ∙ not-false _ (if3 .left) in
+    loop .inv ∙ group-more D _ (loop .start .at) _ (eat-while-digit .ensures) seen _ next more
+
+pub eat-while-number-digit-spec : {M : Type 1} → statement M
+eat-while-number-digit-spec =
+    tie.close
+    (tie.spec
+    Inv-loop
+    μ-loop
+    loop-holds
+    eat-while-digit-requires
+    sees-requires
+    returns
+    eat-requires
+    returns-2
+    sees-digit-requires
+    returns-3
+    loop-less
+    loop-again)

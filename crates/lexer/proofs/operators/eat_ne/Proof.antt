@@ -1,0 +1,62 @@
+-- `lexer::operators::eat_ne` meets its contract. Assumes nothing.
+use native.Mathlib.Omega.{arith}
+use mathlib.Core.Path.{_∙_, refl, sym}
+use borrow.Author.Needs.{needs}
+use Rattle.grammar.specs.Classes.{operators}
+use Rattle.grammar.proofs.Walk.{misses-none, moved-up, spelled-first, spelled-more}
+use Rattle.lexer.proofs.OperatorLaws.{bang-lexed, follow, isOperator, operator-lexed}
+use Rattle.lexer.proofs.operators.eat_ne.Statement.{statement}
+use Rattle.lexer.proofs.operators.eat_ne.Tie as tie
+
+eat-requires : tie.Need-eat-requires
+eat-requires c κs = search needs
+
+sees-requires : tie.Need-sees-requires
+sees-requires c κs = search needs
+
+eat-requires-2 : tie.Need-eat-requires-2
+eat-requires-2 c κs = search needs
+
+token-requires : tie.Need-token-requires
+token-requires c κs =
+    let eat2 = c .eat2 in
+    let eat = c .before .before .before .eat in
+    omega (arith, moved-up _ _ _ (eat .ensures), moved-up _ _ _ (eat2 .ensures))
+
+returns : tie.Need-returns
+unfolding follow isOperator operators
+returns c =
+    let token = c .token in
+    let eat2 = c .before .eat2 in
+    let if1 = c .before .before .if1 in
+    let sees = c .before .before .before .sees in
+    let eat = c .before .before .before .before .eat in
+    let pre = c .before .before .before .before .before .before .pre in
+    let one = spelled-first 33 _ _ (pre) (eat .ensures) in
+    let two = spelled-more one 61 (sym (sees .ensures) ∙ if1 .taken) (eat2 .ensures) in
+    operator-lexed two refl refl (misses-none _) _ (token .ensures)
+
+refused-requires : tie.Need-refused-requires
+refused-requires c κs = omega (arith, moved-up _ _ _ (c .before .before .eat .ensures))
+
+returns-2 : tie.Need-returns-2
+returns-2 c =
+    let refused = c .refused in
+    let if1 = c .before .if1 in
+    let sees = c .before .before .sees in
+    let eat = c .before .before .before .eat in
+    let pre = c .before .before .before .before .before .pre in
+    let one = spelled-first 33 _ _ (pre) (eat .ensures) in
+    bang-lexed one (sym (sees .ensures) ∙ if1 .left) _ (refused .ensures)
+
+pub eat-ne-spec : {M : Type 1} → statement M
+eat-ne-spec =
+    tie.close
+    (tie.spec
+    eat-requires
+    sees-requires
+    eat-requires-2
+    token-requires
+    returns
+    refused-requires
+    returns-2)

@@ -1,0 +1,51 @@
+-- What the eaters answer, over the text that is left. Assumes nothing.
+use Prim.Native.Nat.{ℕ, suc, _+_}
+use Prim.Native.Char.{Char, code}
+use mathlib.Core.Bool.{Bool, cond, _&&_}
+use mathlib.Core.List.{List, [], _∷_}
+use lib.ListN.{drop}
+use Rattle.words.specs.Bytes.{is}
+use Rattle.grammar.specs.Form.{Set, H, byte, no, holds}
+use Rattle.grammar.specs.Runs.{sees, over}
+use Rattle.lexer.specs.declared.cursor.Cursor.{Cursor}
+use Rattle.lexer.specs.declared.cursor.Peek.{Peek}
+use Rattle.lexer.specs.declared.cursor.Peek.the-variants.{Byte, Nothing}
+use Rattle.lexer.specs.declared.cursor.Past.{Past}
+use Rattle.lexer.specs.declared.cursor.Past.the-variants.{Found, Missed}
+use Rattle.lexer.specs.declared.digits.Digits.{Digits}
+use Rattle.lexer.specs.declared.digits.Digits.the-variants.{Read, Bad}
+
+abbrev pub cursor : ℕ → Cursor
+cursor n = record { at = n }
+
+abbrev pub char : Char → Set
+char c = byte (code c)
+
+-- H, by a name that contracts can write
+abbrev pub hexdigit : Set
+hexdigit = H
+
+unfoldable pub head : List ℕ → Peek
+head [] = Nothing
+head (b ∷ s) = Byte b
+
+-- behind the next byte b, or at the end if there is none
+unfoldable pub past : ℕ → ℕ → List ℕ → Past
+past b at s =
+    let stop = over (no (byte b)) at s in
+    cond (sees (byte b) (drop stop s)) (Found (cursor (stop + 1))) (Missed (cursor stop))
+
+-- a `::` pair
+unfoldable pub seesPair : List ℕ → Bool
+seesPair s = sees (char ":") s && sees (char ":") (drop 1 s)
+
+-- Digits of a set from place i on, in a group that starts at g: a `_` between two digits starts another group, any other is bad.
+unfoldable pub groups : Set → ℕ → ℕ → List ℕ → Digits
+groups t g i [] = Read (cursor i)
+groups t g i (b ∷ s) =
+    cond (holds t b) (groups t g (i + 1) s)
+    (cond (is "_" b) (cond (sees t s) (groups t (i + 1) (i + 1) s) (Bad (cursor g) (cursor (i + 1)))) (Read (cursor i)))
+
+-- Hexadecimal digits, of which one comes before every `_`.
+unfoldable pub hexGroups : ℕ → List ℕ → Digits
+hexGroups i s = cond (sees (char "_") s) (Bad (cursor i) (cursor i)) (groups H i i s)

@@ -1,0 +1,31 @@
+-- What each case of an answer of `next` says, in document 01's numbers, and what `next` owes. Assumes nothing.
+use Prim.Native.Nat.{ℕ}
+use mathlib.Core.List.{List}
+use Rattle.grammar.specs.Classes.{rules}
+use Rattle.grammar.specs.Answers.{Answer, token, end, refusal, refusalNumber}
+use Rattle.grammar.specs.Longest.{Gives}
+use Rattle.lexer.specs.declared.cursor.Cursor.{Cursor}
+use Rattle.lexer.specs.declared.lexed.Refusal.{Refusal}
+use Rattle.lexer.specs.declared.lexed.Refusal.the-variants.{UnrecognizedToken, UnterminatedLiteral, BadNumber, BadFractionalPart}
+use Rattle.lexer.specs.declared.lexed.Refusal.the-variants.{BadExponentPart, MalformedHexInteger, ExpectedEqualsSign, OffsetPastEnd}
+use Rattle.lexer.specs.declared.lexed.Lexed.{Lexed}
+use Rattle.lexer.specs.declared.lexed.Lexed.the-variants.{Token, End, Refused}
+
+abbrev pub numberOf : Refusal → ℕ
+numberOf UnrecognizedToken = refusalNumber "UnrecognizedToken"
+numberOf UnterminatedLiteral = refusalNumber "UnterminatedLiteral"
+numberOf BadNumber = refusalNumber "BadNumber"
+numberOf BadFractionalPart = refusalNumber "BadFractionalPart"
+numberOf BadExponentPart = refusalNumber "BadExponentPart"
+numberOf MalformedHexInteger = refusalNumber "MalformedHexInteger"
+numberOf ExpectedEqualsSign = refusalNumber "ExpectedEqualsSign"
+numberOf OffsetPastEnd = refusalNumber "OffsetPastEnd"
+
+abbrev pub valuesOf : Lexed → Answer
+valuesOf (Token kind start length next) = token kind start length (next .at)
+valuesOf (End next) = end (next .at)
+valuesOf (Refused why start length next) = refusal (numberOf why) start length (next .at)
+
+-- the answer r is what document 01 gives at an offset of the text
+unfoldable pub Lexes : List ℕ → ℕ → Lexed → Type 0
+Lexes s at r = Gives rules s at (valuesOf r)

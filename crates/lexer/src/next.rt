@@ -1,0 +1,107 @@
+// The longest lexeme at a cursor.
+use crate::cursor::Cursor;
+use crate::cursor::Peek;
+use crate::lexed::Lexed;
+use crate::lexed::Refusal;
+use crate::names::eat_blob_or_id;
+use crate::names::eat_illegal;
+use crate::names::eat_unrecognized;
+use crate::numbers::eat_dot_or_frac;
+use crate::numbers::eat_number;
+use crate::operators::eat_array_contains_or_var;
+use crate::operators::eat_concat_or_bitor;
+use crate::operators::eat_eq;
+use crate::operators::eat_ge_or_gt_or_rshift;
+use crate::operators::eat_le_or_ne_or_lshift_or_lt;
+use crate::operators::eat_minus_or_comment_or_ptr;
+use crate::operators::eat_ne;
+use crate::operators::eat_one_token;
+use crate::operators::eat_overlap_or_bitand;
+use crate::operators::eat_slash_or_comment;
+use crate::operators::eat_white_space;
+use crate::parameters::eat_colon_or_var;
+use crate::parameters::eat_named_var;
+use crate::parameters::eat_numbered_var;
+use crate::quoted::eat_lit_or_id;
+use keywords::kinds::TK_BITNOT;
+use keywords::kinds::TK_COMMA;
+use keywords::kinds::TK_LBRACKET;
+use keywords::kinds::TK_LP;
+use keywords::kinds::TK_PLUS;
+use keywords::kinds::TK_RBRACKET;
+use keywords::kinds::TK_REM;
+use keywords::kinds::TK_RP;
+use keywords::kinds::TK_SEMI;
+use keywords::kinds::TK_STAR;
+use words::bytes::is_blank;
+use words::bytes::is_digit;
+use words::bytes::is_identifier_start;
+ghost use mathlib.Core.Path.{_≡_};
+ghost use mathlib.Core.Bool.{true};
+ghost use Rattle.grammar.specs.Form.{byte};
+ghost use Rattle.lexer.specs.Places.{At, isLater};
+ghost use Rattle.lexer.specs.Values.{Lexes};
+
+pub fn next(text: &[u8], cursor: Cursor) -> Lexed
+    ensures { λ r. ⌜ Lexes (now (text .entry)) (cursor .at) r ⌝ }
+{
+    let at = cursor.at;
+    if text.len() < at {
+        return Lexed::Refused {
+            why: Refusal::OffsetPastEnd,
+            start: 0,
+            length: 0,
+            next: cursor,
+        };
+    }
+    let Peek::Byte(b) = cursor.peek(text) else {
+        return Lexed::End { next: cursor };
+    };
+    if is_blank(b) {
+        return eat_white_space(text, cursor);
+    }
+    match b {
+        b'-' => eat_minus_or_comment_or_ptr(text, cursor),
+        b'(' => eat_one_token(text, cursor, TK_LP),
+        b')' => eat_one_token(text, cursor, TK_RP),
+        b';' => eat_one_token(text, cursor, TK_SEMI),
+        b'+' => eat_one_token(text, cursor, TK_PLUS),
+        b'*' => eat_one_token(text, cursor, TK_STAR),
+        b'/' => eat_slash_or_comment(text, cursor),
+        b'%' => eat_one_token(text, cursor, TK_REM),
+        b'=' => eat_eq(text, cursor),
+        b'<' => eat_le_or_ne_or_lshift_or_lt(text, cursor),
+        b'>' => eat_ge_or_gt_or_rshift(text, cursor),
+        b'!' => eat_ne(text, cursor),
+        b'|' => eat_concat_or_bitor(text, cursor),
+        b',' => eat_one_token(text, cursor, TK_COMMA),
+        b'&' => eat_overlap_or_bitand(text, cursor),
+        b'~' => eat_one_token(text, cursor, TK_BITNOT),
+        b'\'' => eat_lit_or_id(text, cursor, b),
+        b'"' => eat_lit_or_id(text, cursor, b),
+        b'`' => eat_lit_or_id(text, cursor, b),
+        b'.' => eat_dot_or_frac(text, cursor),
+        b'[' => eat_one_token(text, cursor, TK_LBRACKET),
+        b']' => eat_one_token(text, cursor, TK_RBRACKET),
+        b'@' => eat_array_contains_or_var(text, cursor),
+        b'?' => eat_numbered_var(text, cursor),
+        b'$' => eat_named_var(text, cursor, cursor.eat(text)),
+        b'#' => eat_illegal(text, cursor),
+        b':' => eat_colon_or_var(text, cursor),
+        _ => eat_number_or_name(text, cursor, b),
+    }
+}
+
+// A first byte that is no blank and stands for none of the above.
+fn eat_number_or_name(text: &[u8], start: Cursor, b: u8) -> Lexed
+    requires { ⌜ At (byte b) (start .at) (now text) × (isLater b ≡ true) ⌝ }
+    ensures { λ r. ⌜ Lexes (now (text .entry)) (start .at) r ⌝ }
+{
+    if is_digit(b) {
+        return eat_number(text, start);
+    }
+    if is_identifier_start(b) {
+        return eat_blob_or_id(text, start);
+    }
+    eat_unrecognized(text, start)
+}

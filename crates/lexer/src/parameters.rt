@@ -1,0 +1,72 @@
+// Parameters, and the colon.
+use crate::cursor::Cursor;
+use crate::lexed::Lexed;
+use crate::lexed::Refusal;
+use crate::lexed::refused;
+use crate::lexed::token;
+use keywords::kinds::TK_COLON;
+use keywords::kinds::TK_VARIABLE;
+ghost use Rattle.grammar.proofs.Walk.{Reads, behind};
+ghost use Rattle.lexer.specs.Eaten.{char};
+ghost use Rattle.lexer.specs.Places.{At, Named};
+ghost use Rattle.lexer.specs.Values.{Lexes};
+
+// `?` and digits.
+pub(crate) fn eat_numbered_var(text: &[u8], start: Cursor) -> Lexed
+    requires { ⌜ At (char "?") (start .at) (now text) ⌝ }
+    ensures { λ r. ⌜ Lexes (now (text .entry)) (start .at) r ⌝ }
+{
+    token(TK_VARIABLE, start, start.eat(text).eat_while_digit(text))
+}
+
+// The name of a parameter, behind its `$`, `@` or `:`: identifier bytes and `::` pairs anywhere.
+pub(crate) fn eat_named_var(text: &[u8], start: Cursor, at: Cursor) -> Lexed
+    requires { ⌜ Reads (now text) (start .at) (at .at) (behind "$") ⌝ }
+    ensures { λ r. ⌜ Lexes (now (text .entry)) (start .at) r ⌝ }
+{
+    let mut name = at;
+    let mut named = false;
+    loop {
+        let end = name.eat_while_continue(text);
+        if name.at != end.at {
+            named = true;
+        }
+        if !end.sees_pair(text) {
+            return eat_suffix(text, start, end, named);
+        }
+        name = end.eat(text).eat(text);
+    }
+}
+
+// Behind a name with at least one identifier byte, one "(...)" ends it; it must be closed and hold no blank.
+fn eat_suffix(text: &[u8], start: Cursor, at: Cursor, named: bool) -> Lexed
+    requires { ⌜ Named (now text) (start .at) (at .at) named ⌝ }
+    ensures { λ r. ⌜ Lexes (now (text .entry)) (start .at) r ⌝ }
+{
+    if !named {
+        return refused(Refusal::UnrecognizedToken, start, at, start);
+    }
+    if !at.sees(text, b'(') {
+        return token(TK_VARIABLE, start, at);
+    }
+    let end = at.eat(text).eat_while_suffix(text);
+    if !end.sees(text, b')') {
+        return refused(Refusal::UnrecognizedToken, start, end, start);
+    }
+    token(TK_VARIABLE, start, end.eat(text))
+}
+
+// `:name` is a named parameter, and so is `:::name`; any other `:` is a colon.
+pub(crate) fn eat_colon_or_var(text: &[u8], start: Cursor) -> Lexed
+    requires { ⌜ At (char ":") (start .at) (now text) ⌝ }
+    ensures { λ r. ⌜ Lexes (now (text .entry)) (start .at) r ⌝ }
+{
+    let colon = start.eat(text);
+    if colon.sees_start(text) {
+        return eat_named_var(text, start, colon);
+    }
+    if colon.sees_pair(text) {
+        return eat_named_var(text, start, colon);
+    }
+    token(TK_COLON, start, colon)
+}

@@ -1,0 +1,60 @@
+// Strings, quoted names and blobs.
+use crate::cursor::Cursor;
+use crate::cursor::Past;
+use crate::lexed::Lexed;
+use crate::lexed::Refusal;
+use crate::lexed::refused;
+use crate::lexed::token;
+use keywords::kinds::TK_BLOB;
+use keywords::kinds::TK_ID;
+use keywords::kinds::TK_STRING;
+ghost use mathlib.Core.Path.{_≡_};
+ghost use mathlib.Core.Bool.{true};
+ghost use Rattle.grammar.specs.Form.{byte};
+ghost use Rattle.grammar.proofs.Walk.{Reads, behind};
+ghost use Rattle.lexer.specs.Places.{At, isQuote, quoteKind};
+ghost use Rattle.lexer.specs.Values.{Lexes};
+
+fn quote_kind(quote: u8) -> u32
+    ensures { λ r. ⌜ r ≡ quoteKind quote ⌝ }
+{
+    if quote == b'\'' {
+        return TK_STRING;
+    }
+    TK_ID
+}
+
+pub(crate) fn eat_lit_or_id(text: &[u8], start: Cursor, quote: u8) -> Lexed
+    requires { ⌜ At (byte quote) (start .at) (now text) × (isQuote quote ≡ true) ⌝ }
+    ensures { λ r. ⌜ Lexes (now (text .entry)) (start .at) r ⌝ }
+{
+    let mut body = start.eat(text);
+    loop {
+        match body.eat_past(text, quote) {
+            Past::Missed(end) => {
+                return refused(Refusal::UnterminatedLiteral, start, end, start);
+            }
+            Past::Found(after) => {
+                if !after.sees(text, quote) {
+                    return token(quote_kind(quote), start, after);
+                }
+                body = after.eat(text);
+            }
+        }
+    }
+}
+
+// Behind `x'`.
+pub(crate) fn eat_blob(text: &[u8], start: Cursor, at: Cursor) -> Lexed
+    requires { ⌜ Reads (now text) (start .at) (at .at) (behind "x'") ⌝ }
+    ensures { λ r. ⌜ Lexes (now (text .entry)) (start .at) r ⌝ }
+{
+    let end = at.eat_while_hexdigit(text);
+    if !end.sees(text, b'\'') {
+        return refused(Refusal::UnterminatedLiteral, start, end, start);
+    }
+    if (end.at - at.at) % 2 != 0 {
+        return refused(Refusal::UnrecognizedToken, start, end.eat(text), start);
+    }
+    token(TK_BLOB, start, end.eat(text))
+}
