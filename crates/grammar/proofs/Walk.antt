@@ -1,6 +1,6 @@
 -- Reading a text by hand: what is found from its start on is what is found from here on in a state, and a state's ways out are found by
 -- computing. Assumes nothing.
-use Prim.Native.Nat.{ℕ, zero, suc, _+_, _-_, _≤_, _<_}
+use Prim.Native.Nat.{ℕ, zero, suc, _+_, _-_, _%_, _≤_, _<_}
 use Prim.Native.String.{String}
 use native.Mathlib.Omega.{arith}
 use native.Mathlib.Nat.{add-zero}
@@ -11,15 +11,15 @@ use mathlib.Core.Bool.{Bool, true, false, not, cond, _&&_, _||_, true≢false}
 use mathlib.Core.List.{List, [], _∷_, _++_, append-assoc}
 use mathlib.Core.Logic.{inl, inr}
 use lib.Dec.{eqb, ltb}
-use lib.ListN.{length, take, drop, getD, drop-of-length-le, length-append}
+use lib.ListN.{length, take, drop, getD, drop-of-length-le, length-append, length-drop}
 use lib.Seq.{drop-cons, drop-drop, take-append-seam, length-take-le}
 use Rattle.keywords.specs.Text.{bytes}
 use Rattle.keywords.proofs.Logic.{split, and-left, and-right, every}
-use Rattle.grammar.specs.Form.{Set, none, byte, no, _or_, holds}
+use Rattle.grammar.specs.Form.{Set, none, any, byte, no, _or_, _except_, holds}
 use Rattle.grammar.specs.Classes.{operators, rules}
 use Rattle.grammar.specs.Answers.{Answer, answer}
 use Rattle.grammar.specs.Longest.{Gives}
-use Rattle.grammar.specs.Runs.{sees, run, part, moved, optional, over}
+use Rattle.grammar.specs.Runs.{char, sees, run, seesPair, part, moved, optional, over}
 use Rattle.grammar.proofs.States.{State, ruleAt, start, step, after, met}
 use Rattle.grammar.proofs.Model.{Found, nothing, found, here, onward, scan, given, next, Right, scan-right}
 use Rattle.grammar.proofs.High.{plainSet, plain, low, low-set, low-step, low-small}
@@ -46,15 +46,15 @@ pub record Reads (s : List ℕ) (from at : ℕ) (q : State) : Type 0 where
 abbrev pub goes : State → Set → State → Bool
 goes q t r = every plain q && plainSet t && below 129 (λ b. let there = alike (step b q) r in not (holds t b) || there)
 
-or-right : (a b : Bool) → not a || b ≡ true → a ≡ true → b ≡ true
-or-right true b e h = e
-or-right false b e h = absurd (true≢false (sym h))
+implied : (a b : Bool) → not a || b ≡ true → a ≡ true → b ≡ true
+implied true b e h = e
+implied false b e h = absurd (true≢false (sym h))
 
 pub goes-step : (q : State) (t : Set) (r : State) → goes q t r ≡ true → (b : ℕ) → holds t b ≡ true → step b q ≡ r
 goes-step q t r g b h =
     let p = and-left (every plain q && plainSet t) (below 129 (λ b. not (holds t b) || alike (step b q) r)) g in
     let l = below-at (λ b. not (holds t b) || alike (step b q) r) 129 (and-right (every plain q && plainSet t) _ g) (low b) (low-small b) in
-    let k = or-right (holds t (low b)) (alike (step (low b) q) r) l (low-set b t (and-right (every plain q) (plainSet t) p) ∙ h) in
+    let k = implied (holds t (low b)) (alike (step (low b) q) r) l (low-set b t (and-right (every plain q) (plainSet t) p) ∙ h) in
     sym (low-step b q (and-left (every plain q) (plainSet t) p)) ∙ alike-eq (step (low b) q) r k
 
 -- a rule is met
@@ -168,7 +168,7 @@ joins-step q r t g b h =
     let test : ℕ → Bool = λ b. not (holds t b) || alike (step b q) (step b r) in
     let p = and-left a (below 129 test) g in
     let l = below-at test 129 (and-right a (below 129 test) g) (low b) (low-small b) in
-    let k = or-right (holds t (low b)) (alike (step (low b) q) (step (low b) r)) l (low-set b t (and-right (every plain q && every plain r) (plainSet t) p) ∙ h) in
+    let k = implied (holds t (low b)) (alike (step (low b) q) (step (low b) r)) l (low-set b t (and-right (every plain q && every plain r) (plainSet t) p) ∙ h) in
     let e = and-left (every plain q && every plain r) (plainSet t) p in
     sym (low-step b q (and-left (every plain q) (every plain r) e)) ∙ alike-eq (step (low b) q) (step (low b) r) k ∙ low-step b r (and-right (every plain q) (every plain r) e)
 
@@ -192,6 +192,81 @@ unfolding sees
 scan-stop q t k g m [] e = ap here m
 scan-stop q t k g m (b ∷ l) e =
     ap (λ (p : State). onward (scan p l) (met q)) (goes-step q (no t) [] g b (ap not e)) ∙ rw (dead l) (ap here m)
+
+-- a run of a set that leads to and fro between two states
+abbrev pub alternate : ℕ → State → State → State
+alternate zero a b = a
+alternate (suc n) a b = alternate n b a
+
+ends-alternate : (t : Set) (l : List ℕ) (a b : State) → goes a t b && meets b ≡ true → goes b t a && meets a ≡ true → (at : ℕ)
+    → ends at (scan a l) ≡ ends (at + run t l) (scan (alternate (run t l) a b) (drop (run t l) l))
+unfolding run
+ends-alternate t [] a b g h at = rw add-zero
+ends-alternate t (c ∷ l) a b g h at =
+    split (holds t c)
+    (λ e. let i = e in rw e
+    (ends-step a t b (and-left (goes a t b) (meets b) g) (and-right (goes a t b) (meets b) g) at c l i ∙ ends-alternate t l b a h g (at + 1)
+    ∙ ap (λ (n : ℕ). ends n (scan (alternate (run t l) b a) (drop (run t l) l))) (omega arith)))
+    (λ e. rw (e, add-zero))
+
+pub alternate-even : (a b : State) (n : ℕ) → n % 2 ≡ 0 → alternate n a b ≡ a
+alternate-even a b zero e = refl
+alternate-even a b (suc zero) e = absurd (omega arith)
+alternate-even a b (suc (suc n)) e = alternate-even a b n (omega arith)
+
+pub alternate-odd : (a b : State) (n : ℕ) → (n % 2 ≡ 0 → ⊥) → alternate n a b ≡ b
+alternate-odd a b zero e = absurd (e refl)
+alternate-odd a b (suc zero) e = refl
+alternate-odd a b (suc (suc n)) e = alternate-odd a b n (λ h. e (omega arith))
+
+-- two states from which a byte leads on to the same
+scan-joined : (q r : State) (t : Set) (p : State) → goes q t p ≡ true → goes r t p ≡ true → meets p ≡ true → (l : List ℕ) → sees t l ≡ true → scan q l ≡ scan r l
+unfolding sees
+scan-joined q r t p g h m [] e = absurd (true≢false (sym e))
+scan-joined q r t p g h m (b ∷ l) e =
+    ap (λ (x : State). onward (scan x l) (met q)) (goes-step q t p g b e) ∙ onward-same (scan p l) (scan-found p l m)
+    ∙ sym (ap (λ (x : State). onward (scan x l) (met r)) (goes-step r t p h b e))
+  where
+    onward-same : (f : Found) → isFound f ≡ true → onward f (met q) ≡ onward f (met r)
+    onward-same nothing e = absurd (true≢false (sym e))
+    onward-same (found n k) e = refl
+
+-- A pair leads from q over m to r.
+abbrev pub pairs : State → State → State → Bool
+pairs q m r = goes q (char ":") m && goes m (char ":") r && meets r
+
+scan-pair : (q m r : State) → pairs q m r ≡ true → (b c : ℕ) (l : List ℕ) → holds (char ":") b ≡ true → holds (char ":") c ≡ true
+    → scan q (b ∷ c ∷ l) ≡ onward (onward (scan r l) (met m)) (met q)
+scan-pair q m r g b c l e f =
+    let x = goes q (char ":") m in
+    let y = goes m (char ":") r in
+    let h = and-left (x && y) (meets r) g in
+    ap (λ (p : State). onward (onward (scan (step c p) l) (met p)) (met q)) (goes-step q (char ":") m (and-left x y h) b e)
+    ∙ ap (λ (p : State). onward (onward (scan p l) (met m)) (met q)) (goes-step m (char ":") r (and-right x y h) c f)
+
+twice : (f : Found) (k l : List ℕ) (at : ℕ) → isFound f ≡ true → ends at (onward (onward f k) l) ≡ ends (at + 2) f
+twice nothing k l at e = absurd (true≢false (sym e))
+twice (found n j) k l at e = ap (λ (m : ℕ). found m j) (omega arith)
+
+-- no pair follows: then a colon does not count
+scan-no-pair : (q m : State) (t : Set) (k : ℕ) → goes q (no (t or char ":")) [] && goes q (char ":") m && goes m (no (char ":")) [] ≡ true → met m ≡ [] → met q ≡ k ∷ []
+    → (l : List ℕ) → sees t l ≡ false → seesPair l ≡ false → scan q l ≡ found 0 k
+unfolding sees seesPair
+scan-no-pair q m t k g n e [] = λ f h. ap here e
+scan-no-pair q m t k g n e (b ∷ l) =
+    let x = goes q (no (t or char ":")) [] in
+    let y = goes q (char ":") m in
+    let z = goes m (no (char ":")) [] in
+    let xy = and-left (x && y) z g in
+    split (holds (char ":") b)
+    (λ c. let d = c in λ f. rw c (λ h. ap (λ (p : State). onward (scan p l) (met q)) (goes-step q (char ":") m (and-right x y xy) b d) ∙ colon l h))
+    (λ c. let d = c in λ f h. ap (λ (p : State). onward (scan p l) (met q)) (goes-step q (no (t or char ":")) [] (and-left x y xy) b (rw (f, d))) ∙ rw (dead l) (ap here e))
+  where
+    colon : (l : List ℕ) → sees (char ":") (drop 1 (b ∷ l)) ≡ false → onward (scan m l) (met q) ≡ found 0 k
+    colon [] h = rw (n, e)
+    colon (c ∷ l) h =
+        ap (λ (p : State). onward (onward (scan p l) (met m)) (met q)) (goes-step m (no (char ":")) [] (and-right (goes q (no (t or char ":")) [] && goes q (char ":") m) (goes m (no (char ":")) []) g) c (ap not h))
+        ∙ rw (dead l, n, e)
 
 module _ {s : List ℕ} {from at : ℕ} {q : State} (p : Reads s from at q) where
   reads-step : (t : Set) (r : State) → goes q t r && meets r ≡ true → sees t (drop at s) ≡ true → Reads s from (at + 1) r
@@ -224,11 +299,82 @@ module _ {s : List ℕ} {from at : ℕ} {q : State} (p : Reads s from at q) wher
   pub reads-join : (r : State) (t : Set) → joins q r t ≡ true → met q ≡ met r → sees (no t) (drop at s) ≡ false → Reads s from at r
   reads-join r t g m e = record { ordered = p .ordered; same = p .same ∙ ap (ends at) (scan-join q r t g m (drop at s) e) }
 
+  pub reads-alternate : (r : State) (t : Set) → goes q t r && meets r ≡ true → goes r t q && meets q ≡ true → {d : ℕ} → d ≡ over t at s → Reads s from d (alternate (d - at) q r)
+  unfolding over
+  reads-alternate r t g h {d} f =
+      let o = p .ordered in
+      let n : d - at ≡ run t (drop at s) = omega arith in
+      rw n
+      (record {
+        ordered = omega arith;
+        same = p .same ∙ ends-alternate t (drop at s) q r g h at ∙ rw (drop-drop, ← f);
+      })
+
+  pub reads-joined : (r : State) (t : Set) (u : State) → goes q t u && goes r t u && meets u ≡ true → sees t (drop at s) ≡ true → Reads s from at r
+  reads-joined r t u g e =
+      let a = goes q t u in
+      let b = goes r t u in
+      let h = and-left (a && b) (meets u) g in
+      record {
+        ordered = p .ordered;
+        same = p .same ∙ ap (ends at) (scan-joined q r t u (and-left a b h) (and-right a b h) (and-right (a && b) (meets u) g) (drop at s) e);
+      }
+
+  -- a pair is eaten
+  pub reads-pair : (m r : State) → pairs q m r ≡ true → seesPair (drop at s) ≡ true → {d e : ℕ} → d ≡ moved at s → e ≡ moved d s → Reads s from e r
+  unfolding seesPair
+  reads-pair m r g h {d} {e} f i =
+      let a = sees (char ":") (drop at s) in
+      let x = and-left a (sees (char ":") (drop 1 (drop at s))) h in
+      let y = and-right a (sees (char ":") (drop 1 (drop at s))) h in
+      let n : d ≡ at + 1 = f ∙ moved-one (char ":") s at x in
+      let z : sees (char ":") (drop d s) ≡ true = rw (n, ← drop-drop 1 at s) y in
+      let k : e ≡ at + 2 = i ∙ moved-one (char ":") s d z ∙ omega arith in
+      let o = p .ordered in
+      let w : d + 1 ≡ e = omega arith in
+      let both : drop at s ≡ getD s at 0 ∷ getD s d 0 ∷ drop (d + 1) s = seen-cons (char ":") s at x ∙ rw (← n, seen-cons (char ":") s d z) in
+      record {
+        ordered = omega arith;
+        same = p .same
+            ∙ ap (λ (l : List ℕ). ends at (scan q l)) both
+            ∙ ap (ends at) (scan-pair q m r g (getD s at 0) (getD s d 0) (drop (d + 1) s) (seen-holds (char ":") s at x) (seen-holds (char ":") s d z))
+            ∙ twice (scan r (drop (d + 1) s)) (met m) (met q) at (scan-found r (drop (d + 1) s) (and-right (goes q (char ":") m && goes m (char ":") r) (meets r) g))
+            ∙ rw (w, k);
+      }
+
+  pub reads-joined-pair : (m r u : State) → pairs q m u ≡ true → pairs r m u ≡ true → seesPair (drop at s) ≡ true → Reads s from at r
+  unfolding seesPair
+  reads-joined-pair m r u g i h =
+      let a = sees (char ":") (drop at s) in
+      let x = and-left a (sees (char ":") (drop 1 (drop at s))) h in
+      let y = and-right a (sees (char ":") (drop 1 (drop at s))) h in
+      let z : sees (char ":") (drop (at + 1) s) ≡ true = rw (← drop-drop 1 at s) y in
+      let b = getD s at 0 in
+      let c = getD s (at + 1) 0 in
+      let l = drop (at + 1 + 1) s in
+      let e : drop at s ≡ b ∷ c ∷ l = seen-cons (char ":") s at x ∙ rw (seen-cons (char ":") s (at + 1) z) in
+      let v = seen-holds (char ":") s at x in
+      let w = seen-holds (char ":") s (at + 1) z in
+      record {
+        ordered = p .ordered;
+        same = p .same ∙ ap (ends at)
+            (ap (scan q) e ∙ scan-pair q m u g b c l v w ∙ double (scan u l) (scan-found u l (and-right (goes q (char ":") m && goes m (char ":") u) (meets u) g))
+            ∙ sym (scan-pair r m u i b c l v w) ∙ sym (ap (scan r) e));
+      }
+    where
+      double : (f : Found) → isFound f ≡ true → onward (onward f (met m)) (met q) ≡ onward (onward f (met m)) (met r)
+      double nothing e = absurd (true≢false (sym e))
+      double (found n k) e = refl
+
   pub reads-found : (k : ℕ) → scan q (drop at s) ≡ found 0 k → Ends s from at k
   reads-found k e = record { ordered = p .ordered; same = p .same ∙ ap (ends at) e ∙ ap (λ (n : ℕ). found n k) (omega arith) }
 
   pub reads-stop : (t : Set) (k : ℕ) → goes q (no t) [] ≡ true → met q ≡ k ∷ [] → sees t (drop at s) ≡ false → Ends s from at k
   reads-stop t k g m e = reads-found k (scan-stop q t k g m (drop at s) e)
+
+  pub reads-no-pair : (m : State) (t : Set) (k : ℕ) → goes q (no (t or char ":")) [] && goes q (char ":") m && goes m (no (char ":")) [] ≡ true → met m ≡ [] → met q ≡ k ∷ []
+      → sees t (drop at s) ≡ false → seesPair (drop at s) ≡ false → Ends s from at k
+  reads-no-pair m t k g n e f h = reads-found k (scan-no-pair q m t k g n e (drop at s) f h)
 
   -- nothing follows
   pub reads-end : (k : ℕ) → met q ≡ k ∷ [] → drop at s ≡ [] → Ends s from at k
@@ -238,12 +384,12 @@ module _ {s : List ℕ} {from at : ℕ} {q : State} (p : Reads s from at q) wher
 abbrev pub inside : Set → Set → Bool
 inside t u = plainSet t && plainSet u && below 129 (λ b. not (holds t b) || holds u b)
 
-inside-holds : (t u : Set) → inside t u ≡ true → (b : ℕ) → holds t b ≡ true → holds u b ≡ true
+pub inside-holds : (t u : Set) → inside t u ≡ true → (b : ℕ) → holds t b ≡ true → holds u b ≡ true
 inside-holds t u g b h =
     let p = and-left (plainSet t && plainSet u) (below 129 (λ b. not (holds t b) || holds u b)) g in
     let l = below-at (λ b. not (holds t b) || holds u b) 129 (and-right (plainSet t && plainSet u) _ g) (low b) (low-small b) in
     sym (low-set b u (and-right (plainSet t) (plainSet u) p))
-    ∙ or-right (holds t (low b)) (holds u (low b)) l (low-set b t (and-left (plainSet t) (plainSet u) p) ∙ h)
+    ∙ implied (holds t (low b)) (holds u (low b)) l (low-set b t (and-left (plainSet t) (plainSet u) p) ∙ h)
 
 pub inside-sees : (t u : Set) → inside t u ≡ true → (l : List ℕ) → sees t l ≡ true → sees u l ≡ true
 unfolding sees
@@ -258,10 +404,36 @@ unfolding sees
 misses-none [] = refl
 misses-none (b ∷ l) = refl
 
+pub misses-any : (l : List ℕ) → sees (no any) l ≡ false
+unfolding sees
+misses-any [] = refl
+misses-any (b ∷ l) = refl
+
 pub misses-or : (t u : Set) (l : List ℕ) → sees t l ≡ false → sees u l ≡ false → sees (t or u) l ≡ false
 unfolding sees
 misses-or t u [] d e = refl
 misses-or t u (b ∷ l) d e = rw (d, e)
+
+-- one of two sets
+pub or-left : (t u : Set) (l : List ℕ) → sees (t or u) l ≡ false → sees t l ≡ false
+unfolding sees
+or-left t u [] e = refl
+or-left t u (b ∷ l) e = split (holds t b) (λ h. absurd (true≢false (rw h at e))) (λ h. h)
+
+pub or-right : (t u : Set) (l : List ℕ) → sees (t or u) l ≡ false → sees u l ≡ false
+unfolding sees
+or-right t u [] e = refl
+or-right t u (b ∷ l) e = split (holds t b) (λ h. absurd (true≢false (rw h at e))) (λ h. rw h at e)
+
+pub or-other : (t u : Set) (l : List ℕ) → sees (t or u) l ≡ true → sees t l ≡ false → sees u l ≡ true
+unfolding sees
+or-other t u [] e h = absurd (true≢false (sym e))
+or-other t u (b ∷ l) e h = rw h at e
+
+pub except-sees : (t u : Set) (l : List ℕ) → sees t l ≡ true → sees u l ≡ false → sees (t except u) l ≡ true
+unfolding sees
+except-sees t u [] d e = d
+except-sees t u (b ∷ l) d e = rw (d, e)
 
 pub sees-no : (t : Set) (l : List ℕ) → sees t l ≡ true → sees (no t) l ≡ false
 unfolding sees
@@ -296,6 +468,17 @@ ends-long {s} {from} {at} {k} e =
     let f = ends-found from at k (scan (start rules) (drop from s)) (e .same) in
     let r = subst (Right (start rules) (drop from s)) f (scan-right (drop from s) (start rules)) in
     length-take-le (at - from) (drop from s) (r .0)
+
+pub ends-in : {s : List ℕ} {from at k : ℕ} → Ends s from at k → at ≤ length s
+ends-in {s} {from} {at} {k} e =
+    let f = ends-found from at k (scan (start rules) (drop from s)) (e .same) in
+    let r = subst (Right (start rules) (drop from s)) f (scan-right (drop from s) (start rules)) in
+    let o = e .ordered in
+    let l = r .0 in
+    split (ltb from (length s))
+    (λ h. omega (arith, ltb-true from (length s) h, length-drop from s))
+    (λ h. let d = drop-of-length-le s (ltb-false from (length s) h) in
+    absurd (let z : nothing ≡ found (at - from) k = sym empty-text ∙ ap (scan (start rules)) (sym d) ∙ f in let y : _≡_ {A = Bool} true false = cc in true≢false y))
 
 -- The text has w from `from` to `at`.
 pub record Spelled (s : List ℕ) (from at : ℕ) (w : List ℕ) : Type 0 where

@@ -1,9 +1,10 @@
 -- What a text begins with, and its parts. Assumes nothing.
 use Prim.Native.Nat.{ℕ, suc, _+_, _-_}
-use mathlib.Core.Bool.{Bool, false, cond}
+use Prim.Native.Char.{Char, code}
+use mathlib.Core.Bool.{Bool, false, cond, _&&_}
 use mathlib.Core.List.{List, [], _∷_}
 use lib.ListN.{length, take, drop}
-use Rattle.grammar.specs.Form.{Set, holds}
+use Rattle.grammar.specs.Form.{Set, byte, holds}
 
 -- it begins with a byte of the set
 unfoldable pub sees : Set → List ℕ → Bool
@@ -14,6 +15,13 @@ sees t (b ∷ s) = holds t b
 unfoldable pub run : Set → List ℕ → ℕ
 run t [] = 0
 run t (b ∷ s) = cond (holds t b) (suc (run t s)) 0
+
+-- with a `::` pair
+abbrev pub char : Char → Set
+char c = byte (code c)
+
+unfoldable pub seesPair : List ℕ → Bool
+seesPair s = sees (char ":") s && sees (char ":") (drop 1 s)
 
 -- its bytes from a place to before another
 abbrev pub part : List ℕ → ℕ → ℕ → List ℕ

@@ -11,12 +11,12 @@ use lib.ListN.{length, getD, drop, drop-of-length-le}
 use lib.Seq.{drop-cons, drop-drop}
 use Rattle.keywords.proofs.Logic.{split}
 use Rattle.grammar.specs.Form.{Set, byte, no, _or_, holds}
-use Rattle.grammar.specs.Runs.{sees, run, moved, optional, over}
+use Rattle.grammar.specs.Runs.{char, seesPair, sees, run, moved, optional, over}
 use Rattle.grammar.proofs.Walk.{moved-one, optional-one, optional-none, over-on, seen-in}
 use Rattle.lexer.specs.declared.cursor.Peek.the-variants.{Byte, Nothing}
 use Rattle.lexer.specs.declared.cursor.Past.{Past}
 use Rattle.lexer.specs.declared.cursor.Past.the-variants.{Found, Missed}
-use Rattle.lexer.specs.Eaten.{cursor, char, head, past, seesPair}
+use Rattle.lexer.specs.Eaten.{cursor, head, past}
 
 -- what is peeked
 pub head-some : (s : List ℕ) (at : ℕ) → at < length s → Byte (getD s at 0) ≡ head (drop at s)

@@ -13,11 +13,21 @@ use borrow.Author.Tests.{eqb-true, eqb-false}
 use Rattle.keywords.proofs.Logic.{split}
 use Rattle.words.specs.Bytes.{isHexdigit, isDigit}
 use Rattle.grammar.specs.Form.{Set, H, no, holds}
-use Rattle.grammar.specs.Runs.{sees, run, over}
+use Rattle.grammar.specs.Runs.{char, sees, run, over}
 use Rattle.grammar.proofs.Walk.{moved-one, over-stops, inside-misses, sees-no}
 use Rattle.lexer.specs.declared.digits.Digits.{Digits}
 use Rattle.lexer.specs.declared.digits.Digits.the-variants.{Read, Bad}
-use Rattle.lexer.specs.Eaten.{cursor, char, groups, hexGroups}
+use Rattle.lexer.specs.Eaten.{cursor, groups, hexGroups}
+
+-- where a run ends
+abbrev pub endOf : Digits → ℕ
+endOf (Read c) = c .at
+endOf (Bad g c) = c .at
+
+-- where the span of a bad one begins
+abbrev pub firstOf : Digits → ℕ
+firstOf (Read c) = c .at
+firstOf (Bad g c) = g .at
 
 groups-run : (t : Set) (g i : ℕ) (l : List ℕ) → groups t g i l ≡ groups t g (i + run t l) (drop (run t l) l)
 unfolding groups run
@@ -29,7 +39,7 @@ groups-run t g i (b ∷ l) =
 
 -- where the digits of a group end
 module _ (t : Set) (g i : ℕ) where
-  groups-read : (l : List ℕ) → sees t l ≡ false → sees (char "_") l ≡ false → groups t g i l ≡ Read (cursor i)
+  pub groups-read : (l : List ℕ) → sees t l ≡ false → sees (char "_") l ≡ false → groups t g i l ≡ Read (cursor i)
   unfolding sees groups
   groups-read [] d e = refl
   groups-read (b ∷ l) d e = rw (d, e)
@@ -67,11 +77,11 @@ module _ (t : Set) (s : List ℕ) (g d : ℕ) (e : d ≡ over t g s) where
     group-more k = to-end ∙ groups-more t g d (drop d s) misses h (rw behind-it k) ∙ rw (behind-it, f)
 
 -- hexadecimal groups: the first may not be empty
-hex-groups : (g : ℕ) (l : List ℕ) → sees (char "_") l ≡ false → hexGroups g l ≡ groups H g g l
+pub hex-groups : (g : ℕ) (l : List ℕ) → sees (char "_") l ≡ false → hexGroups g l ≡ groups H g g l
 unfolding hexGroups
 hex-groups g l e = rw e
 
-hex-empty : (g : ℕ) (l : List ℕ) → sees (char "_") l ≡ true → hexGroups g l ≡ Bad (cursor g) (cursor g)
+pub hex-empty : (g : ℕ) (l : List ℕ) → sees (char "_") l ≡ true → hexGroups g l ≡ Bad (cursor g) (cursor g)
 unfolding hexGroups
 hex-empty g l e = rw e
 

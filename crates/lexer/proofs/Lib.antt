@@ -2,3 +2,9 @@ pub mod EatLaws
 pub mod GroupLaws
 pub mod AnswerLaws
 pub mod OperatorLaws
+pub mod QuoteLaws
+pub mod NameLaws
+pub mod ParameterLaws
+pub mod SpanLaws
+pub mod DigitLaws
+pub mod NumberLaws

@@ -18,14 +18,14 @@ use Rattle.grammar.specs.Form.{Set, none, D, blank, byte, no, _or_, oneOf}
 use Rattle.grammar.specs.Classes.{operators, rules}
 use Rattle.grammar.specs.Answers.{answer}
 use Rattle.grammar.specs.Longest.{Some}
-use Rattle.grammar.specs.Runs.{sees, moved, over}
+use Rattle.grammar.specs.Runs.{char, sees, moved, over}
 use Rattle.grammar.proofs.States.{start, after, met}
 use Rattle.grammar.proofs.Walk.{Reads, Ends, Spelled, behind, goes, along, begin, reads-eat, reads-while, reads-join, reads-stop, moved-one, moved-end, over-stops, at-end}
 use Rattle.grammar.proofs.Walk.{spelled-reads, spelled-part, reads-end, misses-none, inside-misses}
 use Rattle.lexer.specs.declared.lexed.Lexed.{Lexed}
 use Rattle.lexer.specs.declared.lexed.Lexed.the-variants.{Token, Refused}
 use Rattle.lexer.specs.declared.lexed.Refusal.the-variants.{ExpectedEqualsSign}
-use Rattle.lexer.specs.Eaten.{cursor, char}
+use Rattle.lexer.specs.Eaten.{cursor}
 use Rattle.lexer.specs.Places.{At}
 use Rattle.lexer.specs.Values.{Lexes}
 use Rattle.lexer.proofs.EatLaws.{Reached}

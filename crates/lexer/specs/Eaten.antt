@@ -1,12 +1,11 @@
 -- What the eaters answer, over the text that is left. Assumes nothing.
 use Prim.Native.Nat.{ℕ, suc, _+_}
-use Prim.Native.Char.{Char, code}
-use mathlib.Core.Bool.{Bool, cond, _&&_}
+use mathlib.Core.Bool.{cond}
 use mathlib.Core.List.{List, [], _∷_}
 use lib.ListN.{drop}
 use Rattle.words.specs.Bytes.{is}
 use Rattle.grammar.specs.Form.{Set, H, byte, no, holds}
-use Rattle.grammar.specs.Runs.{sees, over}
+use Rattle.grammar.specs.Runs.{char, sees, over}
 use Rattle.lexer.specs.declared.cursor.Cursor.{Cursor}
 use Rattle.lexer.specs.declared.cursor.Peek.{Peek}
 use Rattle.lexer.specs.declared.cursor.Peek.the-variants.{Byte, Nothing}
@@ -17,9 +16,6 @@ use Rattle.lexer.specs.declared.digits.Digits.the-variants.{Read, Bad}
 
 abbrev pub cursor : ℕ → Cursor
 cursor n = record { at = n }
-
-abbrev pub char : Char → Set
-char c = byte (code c)
 
 -- H, by a name that contracts can write
 abbrev pub hexdigit : Set
@@ -34,10 +30,6 @@ unfoldable pub past : ℕ → ℕ → List ℕ → Past
 past b at s =
     let stop = over (no (byte b)) at s in
     cond (sees (byte b) (drop stop s)) (Found (cursor (stop + 1))) (Missed (cursor stop))
-
--- a `::` pair
-unfoldable pub seesPair : List ℕ → Bool
-seesPair s = sees (char ":") s && sees (char ":") (drop 1 s)
 
 -- Digits of a set from place i on, in a group that starts at g: a `_` between two digits starts another group, any other is bad.
 unfoldable pub groups : Set → ℕ → ℕ → List ℕ → Digits

@@ -1,5 +1,5 @@
 -- What the lexer's parts ask of the place at which they are called. Assumes nothing.
-use Prim.Native.Nat.{ℕ, _+_, _-_, max}
+use Prim.Native.Nat.{ℕ, _+_, _-_, _≤_, max}
 use mathlib.Core.Path.{_≡_}
 use mathlib.Core.Bool.{Bool, true, false, cond}
 use mathlib.Core.List.{List, [], _∷_}
@@ -10,9 +10,8 @@ use Rattle.words.specs.Bytes.{is}
 use Rattle.grammar.specs.Form.{Set, D, H, S, C, no, _or_, oneOf, holds}
 use Rattle.grammar.specs.Classes.{U}
 use Rattle.grammar.specs.Answers.{afterLast}
-use Rattle.grammar.specs.Runs.{sees, part}
+use Rattle.grammar.specs.Runs.{char, sees, seesPair, part, moved}
 use Rattle.grammar.proofs.Walk.{Reads, behind}
-use Rattle.lexer.specs.Eaten.{char, seesPair}
 
 -- a byte of the set stands at the place
 abbrev pub At : Set → ℕ → List ℕ → Type 0
@@ -32,15 +31,15 @@ quoteKind b = cond (is "'" b) (kind "TK_STRING") (kind "TK_ID")
 abbrev pub isLater : ℕ → Bool
 isLater b = holds (D or S or U) b
 
--- A run of digits of a lexeme starts at the place: behind the last byte that is no digit, or behind the first byte.
-abbrev pub RunStart : Set → List ℕ → ℕ → ℕ → Type 0
-RunStart t s from at = max 1 (afterLast (no t) (part s from at)) ≡ at - from
+-- Of a lexeme's digits before a place, the last group starts at g: behind the last byte that is no digit, or behind the first byte.
+abbrev pub Group : Set → List ℕ → ℕ → ℕ → ℕ → Type 0
+Group t s from g at = max 1 (afterLast (no t) (part s from at)) ≡ g - from
 
 -- behind a number's first digit
 pub record Decimal (s : List ℕ) (start at : ℕ) : Type 0 where
   pub reads : Reads s start at (behind "1")
   pub digits : Only (D or oneOf "_") s start at
-  pub run : RunStart D s start at
+  pub run : Group D s start at at
 
 -- at the dot behind a number's digits
 pub record Dot (s : List ℕ) (start at : ℕ) : Type 0 where
@@ -50,6 +49,7 @@ pub record Dot (s : List ℕ) (start at : ℕ) : Type 0 where
 
 -- at the first digit behind a number's dot
 pub record Fraction (s : List ℕ) (start point at : ℕ) : Type 0 where
+  pub ordered : start ≤ point
   pub next : at ≡ point + 1
   pub dot : At (char ".") point s
   pub reads : Reads s start at (behind "1.5")
@@ -57,18 +57,19 @@ pub record Fraction (s : List ℕ) (start point at : ℕ) : Type 0 where
 
 -- at the `e` of a number
 pub record Exponent (s : List ℕ) (start at : ℕ) : Type 0 where
+  pub ordered : start ≤ at
   pub e : At (char "e" or char "E") at s
-  pub reads : Reads s start (at + 1) (behind "1e")
+  pub reads : Reads s start (moved at s) (behind "1e")
   pub digits : Only (D or oneOf "_.") s start at
 
 -- behind `0x`
 pub record Hex (s : List ℕ) (start at : ℕ) : Type 0 where
   pub two : at ≡ start + 2
   pub reads : Reads s start at (behind "0x")
-  pub run : RunStart H s start at
+  pub run : Group H s start at at
 
--- behind a parameter's name, which has an identifier byte or not
-pub record Named (s : List ℕ) (start at : ℕ) (named : Bool) : Type 0 where
-  pub reads : Reads s start at (cond named (behind "$a") (behind "$"))
+-- behind the identifier bytes and pairs of a parameter's name
+pub record Named (s : List ℕ) (start at : ℕ) : Type 0 where
+  pub reads : Reads s start at (behind "$a")
   pub byte : sees C (drop at s) ≡ false
   pub pair : seesPair (drop at s) ≡ false

@@ -8,8 +8,8 @@ use words::bytes::is_identifier_start;
 ghost use mathlib.Core.Path.{_≡_};
 ghost use lib.ListN.{drop};
 ghost use Rattle.grammar.specs.Form.{D, S, C, blank, byte, no, _or_};
-ghost use Rattle.grammar.specs.Runs.{sees, moved, optional, over};
-ghost use Rattle.lexer.specs.Eaten.{head, hexdigit, seesPair, past};
+ghost use Rattle.grammar.specs.Runs.{seesPair, sees, moved, optional, over};
+ghost use Rattle.lexer.specs.Eaten.{head, hexdigit, past};
 
 pub struct Cursor {
     pub at: usize,
@@ -94,6 +94,15 @@ impl Cursor {
             return false;
         };
         is_identifier_start(x)
+    }
+
+    pub fn sees_continue(self, text: &[u8]) -> bool
+        ensures { λ r. ⌜ r ≡ sees C (drop (self .at) (now (text .entry))) ⌝ }
+    {
+        let Peek::Byte(x) = self.peek(text) else {
+            return false;
+        };
+        is_identifier_continue(x)
     }
 
     pub fn sees_pair(self, text: &[u8]) -> bool

@@ -9,7 +9,8 @@ use keywords::kinds::TK_ILLEGAL;
 use words::lookup::keyword_or_id_token;
 ghost use Rattle.grammar.specs.Form.{S};
 ghost use Rattle.grammar.specs.Classes.{U};
-ghost use Rattle.lexer.specs.Eaten.{char};
+ghost use Rattle.grammar.specs.Runs.{char};
+ghost use Rattle.grammar.proofs.Walk.{Reads, behind};
 ghost use Rattle.lexer.specs.Places.{At};
 ghost use Rattle.lexer.specs.Values.{Lexes};
 
@@ -18,12 +19,21 @@ pub(crate) fn eat_blob_or_id(text: &[u8], start: Cursor) -> Lexed
     ensures { λ r. ⌜ Lexes (now (text .entry)) (start .at) r ⌝ }
 {
     let rest = start.eat(text);
-    if start.sees_either(text, b'x', b'X') {
-        if rest.sees(text, b'\'') {
-            return eat_blob(text, start, rest.eat(text));
-        }
+    if !start.sees_either(text, b'x', b'X') {
+        return eat_id(text, start, rest);
     }
-    let end = rest.eat_while_continue(text);
+    if !rest.sees(text, b'\'') {
+        return eat_id(text, start, rest);
+    }
+    eat_blob(text, start, rest.eat(text))
+}
+
+// Behind the first byte of a word.
+fn eat_id(text: &[u8], start: Cursor, at: Cursor) -> Lexed
+    requires { ⌜ Reads (now text) (start .at) (at .at) (behind "a") ⌝ }
+    ensures { λ r. ⌜ Lexes (now (text .entry)) (start .at) r ⌝ }
+{
+    let end = at.eat_while_continue(text);
     let a = start.at;
     let e = end.at;
     token(keyword_or_id_token(&text[a..e]), start, end)

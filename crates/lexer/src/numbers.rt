@@ -9,7 +9,7 @@ use keywords::kinds::TK_DOT;
 use keywords::kinds::TK_FLOAT;
 use keywords::kinds::TK_INTEGER;
 ghost use Rattle.grammar.specs.Form.{D};
-ghost use Rattle.lexer.specs.Eaten.{char};
+ghost use Rattle.grammar.specs.Runs.{char};
 ghost use Rattle.lexer.specs.Places.{At, Decimal, Dot, Fraction, Exponent, Hex};
 ghost use Rattle.lexer.specs.Values.{Lexes};
 
@@ -84,12 +84,13 @@ pub(crate) fn eat_number(text: &[u8], start: Cursor) -> Lexed
     ensures { λ r. ⌜ Lexes (now (text .entry)) (start .at) r ⌝ }
 {
     let rest = start.eat(text);
-    if start.sees(text, b'0') {
-        if rest.sees_either(text, b'x', b'X') {
-            return eat_hex(text, start, rest.eat(text));
-        }
+    if !start.sees(text, b'0') {
+        return eat_decimal(text, start, rest);
     }
-    eat_decimal(text, start, rest)
+    if !rest.sees_either(text, b'x', b'X') {
+        return eat_decimal(text, start, rest);
+    }
+    eat_hex(text, start, rest.eat(text))
 }
 
 // Behind `0x`.

@@ -27,8 +27,9 @@ ghost use mathlib.Core.Path.{_≡_};
 ghost use Prim.Native.Nat.{_+_, _<_};
 ghost use lib.ListN.{length};
 ghost use Rattle.grammar.specs.Form.{blank};
+ghost use Rattle.grammar.specs.Runs.{char};
 ghost use Rattle.grammar.proofs.Walk.{Reads, behind};
-ghost use Rattle.lexer.specs.Eaten.{char, cursor};
+ghost use Rattle.lexer.specs.Eaten.{cursor};
 ghost use Rattle.lexer.specs.Places.{At};
 ghost use Rattle.lexer.specs.Values.{Lexes};
 

@@ -6,8 +6,8 @@ use crate::lexed::refused;
 use crate::lexed::token;
 use keywords::kinds::TK_COLON;
 use keywords::kinds::TK_VARIABLE;
+ghost use Rattle.grammar.specs.Runs.{char};
 ghost use Rattle.grammar.proofs.Walk.{Reads, behind};
-ghost use Rattle.lexer.specs.Eaten.{char};
 ghost use Rattle.lexer.specs.Places.{At, Named};
 ghost use Rattle.lexer.specs.Values.{Lexes};
 
@@ -19,33 +19,44 @@ pub(crate) fn eat_numbered_var(text: &[u8], start: Cursor) -> Lexed
     token(TK_VARIABLE, start, start.eat(text).eat_while_digit(text))
 }
 
-// The name of a parameter, behind its `$`, `@` or `:`: identifier bytes and `::` pairs anywhere.
+// The name of a parameter, behind its `$`, `@` or `:`: identifier bytes, and `::` pairs anywhere. Here no identifier byte has come yet;
+// without one it is refused.
 pub(crate) fn eat_named_var(text: &[u8], start: Cursor, at: Cursor) -> Lexed
     requires { ⌜ Reads (now text) (start .at) (at .at) (behind "$") ⌝ }
     ensures { λ r. ⌜ Lexes (now (text .entry)) (start .at) r ⌝ }
 {
     let mut name = at;
-    let mut named = false;
+    loop {
+        if name.sees_continue(text) {
+            return eat_name(text, start, name);
+        }
+        if !name.sees_pair(text) {
+            return refused(Refusal::UnrecognizedToken, start, name, start);
+        }
+        name = name.eat(text).eat(text);
+    }
+}
+
+// From the first identifier byte on.
+fn eat_name(text: &[u8], start: Cursor, at: Cursor) -> Lexed
+    requires { ⌜ Reads (now text) (start .at) (at .at) (behind "$a") ⌝ }
+    ensures { λ r. ⌜ Lexes (now (text .entry)) (start .at) r ⌝ }
+{
+    let mut name = at;
     loop {
         let end = name.eat_while_continue(text);
-        if name.at != end.at {
-            named = true;
-        }
         if !end.sees_pair(text) {
-            return eat_suffix(text, start, end, named);
+            return eat_suffix(text, start, end);
         }
         name = end.eat(text).eat(text);
     }
 }
 
-// Behind a name with at least one identifier byte, one "(...)" ends it; it must be closed and hold no blank.
-fn eat_suffix(text: &[u8], start: Cursor, at: Cursor, named: bool) -> Lexed
-    requires { ⌜ Named (now text) (start .at) (at .at) named ⌝ }
+// One "(...)" ends a name; it must be closed and hold no blank.
+fn eat_suffix(text: &[u8], start: Cursor, at: Cursor) -> Lexed
+    requires { ⌜ Named (now text) (start .at) (at .at) ⌝ }
     ensures { λ r. ⌜ Lexes (now (text .entry)) (start .at) r ⌝ }
 {
-    if !named {
-        return refused(Refusal::UnrecognizedToken, start, at, start);
-    }
     if !at.sees(text, b'(') {
         return token(TK_VARIABLE, start, at);
     }

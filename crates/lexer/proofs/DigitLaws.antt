@@ -1,0 +1,97 @@
+-- A run of digits read by states: from one that digits lead back to, over one behind `_`. Assumes nothing.
+use Prim.Native.Nat.{ℕ, _+_, _-_, _≤_, _<_}
+use native.Mathlib.Numerals.{add-one}
+use native.Mathlib.Omega.{arith}
+use mathlib.Core.Path.{_≡_, refl, sym, _∙_, ap, subst}
+use mathlib.Core.Bool.{Bool, true, false, not, cond, _&&_, true≢false}
+use mathlib.Core.List.{List, [], _∷_, head-eq-of-cons-eq, tail-eq-of-cons-eq}
+use lib.ListN.{length, getD, drop}
+use lib.Seq.{drop-drop}
+use Rattle.keywords.proofs.Logic.{split}
+use Rattle.grammar.specs.Form.{Set, no, holds}
+use Rattle.grammar.specs.Runs.{char, sees, moved, part}
+use Rattle.grammar.proofs.States.{State, met}
+use Rattle.grammar.proofs.Walk.{Reads, Ends, goes, meets, inside, moved-one, seen-in, reads-eat, reads-joined, reads-stop}
+use Rattle.lexer.specs.declared.cursor.Cursor.{Cursor}
+use Rattle.lexer.specs.declared.digits.Digits.{Digits}
+use Rattle.lexer.specs.declared.digits.Digits.the-variants.{Read, Bad}
+use Rattle.lexer.specs.Eaten.{cursor, groups}
+use Rattle.lexer.specs.Places.{Only, Group}
+use Rattle.lexer.proofs.SpanLaws.{only-snoc, group-digit, group-start}
+
+-- what digits of t and `_` between them do: digits lead back to q, `_` to u, from where a digit leads back and nothing else goes on;
+-- v is a set that has them all
+pub record Run (t v : Set) (q u : State) (k : ℕ) : Type 0 where
+  pub digit : goes q t q && meets q ≡ true
+  pub line : goes q (char "_") u && meets u ≡ true
+  pub back : goes u t q && goes q t q && meets q ≡ true
+  pub stop : goes u (no t) [] ≡ true
+  pub rule : met u ≡ k ∷ []
+  pub digits-in : inside t v ≡ true
+  pub line-in : inside (char "_") v ≡ true
+  pub apart : inside (char "_") (no t) ≡ true
+
+-- behind a run from i on that ended well
+pub record After (t v : Set) (s : List ℕ) (from i e : ℕ) (q : State) : Type 0 where
+  pub reads : Reads s from e q
+  pub only : Only v s from e
+  pub digit : sees t (drop e s) ≡ false
+  pub line : sees (char "_") (drop e s) ≡ false
+  pub up : i ≤ e
+
+-- at a `_` that no digit follows
+pub record Stuck (t : Set) (s : List ℕ) (from i g e k : ℕ) : Type 0 where
+  pub ends : Ends s from e k
+  pub line : ℕ
+  pub last : e ≡ line + 1
+  pub group : Group t s from g line
+  pub up : i ≤ g
+  pub inside : g ≤ line
+  pub text : line < length s
+
+abbrev Result : Set → Set → List ℕ → ℕ → ℕ → State → ℕ → Digits → Type 0
+Result t v s from i q k (Read c) = After t v s from i (c .at) q
+Result t v s from i q k (Bad g c) = Stuck t s from i (g .at) (c .at) k
+
+module _ {t v : Set} {q u : State} {k : ℕ} (run : Run t v q u k) (s : List ℕ) (from : ℕ) where
+  module _ (i b : ℕ) (l : List ℕ) (e : drop i s ≡ b ∷ l) where
+    tail : drop (i + 1) s ≡ l
+    tail = sym (drop-drop 1 i s) ∙ ap (drop 1) e
+
+    seen : (w : Set) → holds w b ≡ true → sees w (drop i s) ≡ true
+    unfolding sees
+    seen w h = rw e h
+
+    missed : (w : Set) → holds w b ≡ false → sees w (drop i s) ≡ false
+    unfolding sees
+    missed w h = rw e h
+
+  reads-digits : (base : ℕ) (l : List ℕ) (g i : ℕ) → drop i s ≡ l → Reads s from i q → Only v s from i → Group t s from g i → base ≤ g → g ≤ i
+      → Result t v s from base q k (groups t g i l)
+  unfolding groups sees
+  reads-digits base [] g i e p o r a h = record { reads = p; only = o; digit = rw e; line = rw e; up = omega arith }
+  reads-digits base (b ∷ l) g i e p o r a h =
+      split (holds t b)
+      (λ x. let y = seen i b l e t x in
+      rw x (reads-digits base l g (i + 1) (tail i b l e) (reads-eat p t q (run .digit) y (sym (moved-one t s i y)))
+      (only-snoc v s from i (p .ordered) t (run .digits-in) y o) (group-digit t s from i (p .ordered) g y r) a (omega arith)))
+      (λ x. let y = missed i b l e t x in
+      split (holds (char "_") b)
+      (λ z. let w = seen i b l e (char "_") z in
+      let under = reads-eat p (char "_") u (run .line) w (sym (moved-one (char "_") s i w)) in
+      split (sees t l)
+      (λ n. let m : sees t (drop (i + 1) s) ≡ true = rw (tail i b l e) n in
+      rw (x, z, n) (reads-digits base l (i + 1) (i + 1) (tail i b l e) (reads-joined under q t q (run .back) m)
+      (only-snoc v s from i (p .ordered) (char "_") (run .line-in) w o)
+      (group-start t s from i (p .ordered) (char "_") (run .apart) w) (omega arith) (omega arith)))
+      (λ n. let m : sees t (drop (i + 1) s) ≡ false = rw (tail i b l e) n in
+      let ends = reads-stop under t k (run .stop) (run .rule) m in
+      rw (x, z, n) (record { ends = ends; line = i; last = refl; group = r; up = a; inside = h; text = seen-in (char "_") s i w })))
+      (λ z. rw (x, z) (record { reads = p; only = o; digit = y; line = missed i b l e (char "_") z; up = omega arith })))
+
+  module _ {i : ℕ} (p : Reads s from i q) (o : Only v s from i) (r : Group t s from i i) where
+    pub digits-after : {e : ℕ} → Read (cursor e) ≡ groups t i i (drop i s) → After t v s from i e q
+    digits-after e = subst (Result t v s from i q k) (sym e) (reads-digits i (drop i s) i i refl p o r (omega arith) (omega arith))
+
+    pub digits-stuck : {g e : ℕ} → Bad (cursor g) (cursor e) ≡ groups t i i (drop i s) → Stuck t s from i g e k
+    digits-stuck e = subst (Result t v s from i q k) (sym e) (reads-digits i (drop i s) i i refl p o r (omega arith) (omega arith))

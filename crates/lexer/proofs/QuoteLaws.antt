@@ -1,0 +1,141 @@
+-- Strings, quoted names and blobs. Assumes nothing.
+use Prim.Native.Nat.{ℕ, zero, suc, _+_, _-_, _%_, _≤_}
+use native.Mathlib.Omega.{arith}
+use mathlib.Core.Path.{_≡_, refl, sym, _∙_, ap, subst}
+use mathlib.Core.Bool.{Bool, true, false, cond, _&&_, true≢false}
+use mathlib.Core.List.{List, [], _∷_}
+use lib.Dec.{eqb}
+use lib.ListN.{drop}
+use lib.Seq.{drop-drop}
+use borrow.Author.Tests.{eqb-true, eqb-false}
+use Rattle.keywords.proofs.Logic.{split}
+use Rattle.words.specs.Bytes.{isDigit, isHexdigit, isIdentifierStart, isIdentifierContinue, isBlank}
+use Rattle.grammar.specs.Form.{none, H, byte, no, _or_, any}
+use Rattle.grammar.specs.Classes.{operators, rules}
+use Rattle.grammar.specs.Answers.{answer}
+use Rattle.grammar.specs.Runs.{char, sees, run, moved, over}
+use Rattle.grammar.proofs.States.{State, start, after, met}
+use Rattle.grammar.proofs.Walk.{Reads, Ends, Spelled, behind, goes, meets, along, spelled-first, spelled-reads, misses-none, at-end, over-stops, sees-no}
+use Rattle.grammar.proofs.Walk.{alternate, alternate-even, alternate-odd, reads-alternate, misses-or, misses-any, reads-eat, reads-while, reads-join, reads-stop, reads-end}
+use Rattle.lexer.specs.declared.lexed.Refusal.the-variants.{UnrecognizedToken, UnterminatedLiteral}
+use Rattle.lexer.specs.declared.lexed.Lexed.{Lexed}
+use Rattle.lexer.specs.declared.lexed.Lexed.the-variants.{Token, Refused}
+use Rattle.lexer.specs.Eaten.{cursor}
+use Rattle.lexer.specs.Places.{At, isQuote, quoteKind}
+use Rattle.lexer.specs.Values.{Lexes}
+use Rattle.lexer.proofs.EatLaws.{Reached}
+use Rattle.lexer.proofs.AnswerLaws.{token-lexes, whole-lexes}
+
+-- in a body that the quote q opens, and behind a q in it
+unfoldable pub inside : ℕ → State
+inside q = after (start rules) (q ∷ [])
+
+unfoldable pub outside : ℕ → State
+outside q = after (start rules) (q ∷ q ∷ [])
+
+-- the rule of what q closes
+abbrev closed : ℕ → ℕ
+closed q = cond (eqb q 39) 6 7
+
+record Quote (q : ℕ) : Type 0 where
+  first : along (start rules) (q ∷ []) ≡ true
+  body : goes (inside q) (no (byte q)) (inside q) && meets (inside q) ≡ true
+  again : goes (outside q) (byte q) (inside q) && meets (inside q) ≡ true
+  close : goes (inside q) (byte q) (outside q) && meets (outside q) ≡ true
+  after-it : goes (outside q) (no (byte q)) [] ≡ true
+  open-rule : met (inside q) ≡ 16 ∷ []
+  closed-rule : met (outside q) ≡ closed q ∷ []
+
+string-quote : Quote 39
+unfolding inside outside rules operators isDigit isHexdigit isIdentifierStart isIdentifierContinue isBlank
+string-quote = record { first = refl; body = refl; again = refl; close = refl; after-it = refl; open-rule = refl; closed-rule = refl }
+
+name-quote : Quote 34
+unfolding inside outside rules operators isDigit isHexdigit isIdentifierStart isIdentifierContinue isBlank
+name-quote = record { first = refl; body = refl; again = refl; close = refl; after-it = refl; open-rule = refl; closed-rule = refl }
+
+backtick : Quote 96
+unfolding inside outside rules operators isDigit isHexdigit isIdentifierStart isIdentifierContinue isBlank
+backtick = record { first = refl; body = refl; again = refl; close = refl; after-it = refl; open-rule = refl; closed-rule = refl }
+
+quote : (q : ℕ) → isQuote q ≡ true → Quote q
+quote q =
+    split (eqb q 39)
+    (λ e. λ h. subst Quote (sym (eqb-true q 39 e)) string-quote)
+    (λ e. split (eqb q 34)
+    (λ f. λ h. subst Quote (sym (eqb-true q 34 f)) name-quote)
+    (λ f. split (eqb q 96)
+    (λ g. λ h. subst Quote (sym (eqb-true q 96 g)) backtick)
+    (λ g. rw (e, f, g) (λ h. absurd (true≢false (sym h))))))
+
+module _ (q : ℕ) (i : isQuote q ≡ true) {s : List ℕ} {from : ℕ} where
+  pub quote-opens : At (byte q) from s → {d : ℕ} → d ≡ moved from s → Reads s from d (inside q)
+  unfolding inside
+  quote-opens h f = spelled-reads (spelled-first q s from h f) (quote q i .first)
+
+  pub quote-open : {at d : ℕ} → Reads s from at (inside q) → d ≡ over (no (byte q)) at s → sees (byte q) (drop d s) ≡ false → Ends s from d 16
+  quote-open p f h =
+      reads-end (reads-while p (no (byte q)) (quote q i .body) f) 16 (quote q i .open-rule) (at-end (byte q) _ h (over-stops _ _ _ _ f))
+
+  pub quote-found : {at d : ℕ} → Reads s from at (inside q) → Reached q s at d → Reads s from d (outside q)
+  quote-found p r = reads-eat (reads-while p (no (byte q)) (quote q i .body) (r .run)) (byte q) (outside q) (quote q i .close) (r .seen) (r .next)
+
+  pub quote-closed : {at : ℕ} → Reads s from at (outside q) → sees (byte q) (drop at s) ≡ false → Ends s from at (closed q)
+  quote-closed p h = reads-stop p (byte q) (closed q) (quote q i .after-it) (quote q i .closed-rule) h
+
+  pub quote-again : {at d : ℕ} → Reads s from at (outside q) → sees (byte q) (drop at s) ≡ true → d ≡ moved at s → Reads s from d (inside q)
+  quote-again p h f = reads-eat p (byte q) (inside q) (quote q i .again) h f
+
+pub open-lexed : {s : List ℕ} {from at : ℕ} → Ends s from at 16 → (r : Lexed) → r ≡ Refused UnterminatedLiteral from (at - from) (cursor from) → Lexes s from r
+unfolding rules answer
+open-lexed e r f = whole-lexes e UnterminatedLiteral r refl f
+
+pub quoted-lexed : (q : ℕ) {s : List ℕ} {from at : ℕ} → Ends s from at (closed q) → (r : Lexed) → r ≡ Token (quoteKind q) from (at - from) (cursor at) → Lexes s from r
+unfolding rules answer
+quoted-lexed q {s} {from} {at} =
+    split (eqb q 39)
+    (λ e. rw e (λ p r f. token-lexes p 29 r refl f))
+    (λ e. rw e (λ p r f. token-lexes p 30 r refl f))
+
+-- behind `x'`: digits, an even number or an odd one
+module _ {s : List ℕ} {from at : ℕ} (p : Reads s from at (behind "x'")) {d : ℕ} (f : d ≡ over H at s) where
+  digits-read : Reads s from d (alternate (d - at) (behind "x'11") (behind "x'1"))
+  unfolding behind rules operators isDigit isHexdigit isIdentifierStart isIdentifierContinue isBlank
+  digits-read = reads-alternate (reads-join p (behind "x'11") any refl refl (misses-any _)) (behind "x'1") H refl refl f
+
+  even-read : (d - at) % 2 ≡ 0 → Reads s from d (behind "x'11")
+  even-read e = subst (Reads s from d) (alternate-even (behind "x'11") (behind "x'1") (d - at) e) digits-read
+
+  odd-read : ((d - at) % 2 ≡ 0 → ⊥) → Reads s from d (behind "x'1")
+  odd-read e = subst (Reads s from d) (alternate-odd (behind "x'11") (behind "x'1") (d - at) e) digits-read
+
+  -- no quote follows
+  pub blob-open : sees (char "'") (drop d s) ≡ false → Ends s from d 17
+  unfolding behind rules operators isDigit isHexdigit isIdentifierStart isIdentifierContinue isBlank
+  blob-open h =
+      let m = misses-or H (char "'") (drop d s) (over-stops _ _ _ _ f) h in
+      split (eqb ((d - at) % 2) 0)
+      (λ e. reads-stop (even-read (eqb-true _ _ e)) (H or char "'") 17 refl refl m)
+      (λ e. reads-stop (odd-read (eqb-false _ _ e)) (H or char "'") 17 refl refl m)
+
+  module _ (h : sees (char "'") (drop d s) ≡ true) {e : ℕ} (g : e ≡ moved d s) where
+    pub blob-odd : ((d - at) % 2 ≡ 0 → ⊥) → Ends s from e 18
+    unfolding behind rules operators isDigit isHexdigit isIdentifierStart isIdentifierContinue isBlank
+    blob-odd o = reads-stop (reads-eat (odd-read o) (char "'") (behind "x'1'") refl h g) none 18 refl refl (misses-none _)
+
+    pub blob-even : (d - at) % 2 ≡ 0 → Ends s from e 10
+    unfolding behind rules operators isDigit isHexdigit isIdentifierStart isIdentifierContinue isBlank
+    blob-even o = reads-stop (reads-eat (even-read o) (char "'") (behind "x''") refl h g) none 10 refl refl (misses-none _)
+
+module _ {s : List ℕ} {from at : ℕ} (r : Lexed) where
+  pub blob-open-lexed : Ends s from at 17 → r ≡ Refused UnterminatedLiteral from (at - from) (cursor from) → Lexes s from r
+  unfolding rules answer
+  blob-open-lexed e f = whole-lexes e UnterminatedLiteral r refl f
+
+  pub blob-odd-lexed : Ends s from at 18 → r ≡ Refused UnrecognizedToken from (at - from) (cursor from) → Lexes s from r
+  unfolding rules answer
+  blob-odd-lexed e f = whole-lexes e UnrecognizedToken r refl f
+
+  pub blob-lexed : Ends s from at 10 → r ≡ Token 33 from (at - from) (cursor at) → Lexes s from r
+  unfolding rules answer
+  blob-lexed e f = token-lexes e 33 r refl f
