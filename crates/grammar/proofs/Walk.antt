@@ -150,6 +150,10 @@ pub optional-none : (t : Set) (s : List ℕ) (at : ℕ) → sees t (drop at s) �
 unfolding optional
 optional-none t s at e = rw e
 
+pub optional-up : (t : Set) (s : List ℕ) (at d : ℕ) → d ≡ optional t at s → at ≤ d
+unfolding optional
+optional-up t s at d = split (sees t (drop at s)) (λ e. rw e (λ f. omega arith)) (λ e. rw e (λ f. omega arith))
+
 pub over-stops : (t : Set) (s : List ℕ) (at d : ℕ) → d ≡ over t at s → sees t (drop d s) ≡ false
 unfolding over
 over-stops t s at d e = rw (e, ← drop-drop (run t (drop at s)) at s) (run-stops t (drop at s))

@@ -9,10 +9,10 @@ use mathlib.Core.List.{List, [], _∷_}
 use lib.Dec.{eqb}
 use lib.ListN.{length, getD, drop, drop-of-length-le}
 use lib.Seq.{drop-cons, drop-drop}
-use Rattle.keywords.proofs.Logic.{split}
+use Rattle.keywords.proofs.Logic.{split, and-left}
 use Rattle.grammar.specs.Form.{Set, byte, no, _or_, holds}
 use Rattle.grammar.specs.Runs.{char, seesPair, sees, run, moved, optional, over}
-use Rattle.grammar.proofs.Walk.{moved-one, optional-one, optional-none, over-on, seen-in}
+use Rattle.grammar.proofs.Walk.{moved-one, optional-one, optional-none, over-on, moved-up, seen-in}
 use Rattle.lexer.specs.declared.cursor.Peek.the-variants.{Byte, Nothing}
 use Rattle.lexer.specs.declared.cursor.Past.{Past}
 use Rattle.lexer.specs.declared.cursor.Past.the-variants.{Found, Missed}
@@ -69,6 +69,14 @@ pub pair-second : (s : List ℕ) (at d : ℕ) (b : Bool) → true ≡ sees (char
     → b ≡ seesPair (drop at s)
 unfolding seesPair
 pair-second s at d b e f g = rw (← e) (g ∙ rw (f, moved-one (char ":") s at (sym e), ← drop-drop 1 at s))
+
+pub pair-on : (s : List ℕ) (at : ℕ) → seesPair (drop at s) ≡ true → {d e : ℕ} → d ≡ moved at s → e ≡ moved d s → (at < e) × (at < length s)
+unfolding seesPair
+pair-on s at h {d} {e} f g =
+    let x = and-left (sees (char ":") (drop at s)) (sees (char ":") (drop 1 (drop at s))) h in
+    let n = moved-one (char ":") s at x in
+    let m = moved-up s d e g in
+    (omega arith, seen-in (char ":") s at x)
 
 -- an optional byte
 pub optional-taken : (t : Set) (s : List ℕ) (at d : ℕ) → sees t (drop at s) ≡ true → d ≡ moved at s → d ≡ optional t at s

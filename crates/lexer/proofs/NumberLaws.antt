@@ -156,9 +156,9 @@ module _ {s : List ℕ} {from at d : ℕ} (p : Dot s from at) (f : d ≡ moved a
   dot-ends h n = reads-stop dot-reads (D or char "e" or char "E") 9 refl refl (misses-or _ _ _ h n)
 
 -- a dot with no digits before it
-pub first-fraction : {s : List ℕ} {from d : ℕ} → At (char ".") from s → d ≡ moved from s → sees D (drop d s) ≡ true → Fraction s from from d
+pub first-fraction : (s : List ℕ) (from d : ℕ) → At (char ".") from s → d ≡ moved from s → sees D (drop d s) ≡ true → Fraction s from from d
 unfolding behind rules operators isDigit isHexdigit isIdentifierStart isIdentifierContinue isBlank
-first-fraction {s} {from} h f k = record {
+first-fraction s from d h f k = record {
   next = f ∙ moved-one (char ".") s from h;
   ordered = omega arith;
   dot = h;
@@ -209,8 +209,8 @@ module _ {s : List ℕ} {from dot at : ℕ} (p : Fraction s from dot at) where
           let z = init-part s from e (omega arith) (moved e s) n l in
           let k : length (init (part s from (moved e s))) ≡ e - from = rw z (part-long s from e (omega arith) (omega arith)) in
           let j : first (oneOf ".") (part s from (moved e s)) ≡ dot - from =
-                  first-in (D or oneOf "_") (oneOf ".") refl s from dot (moved e s) o (omega arith) (omega arith) (p .digits)
-                  (inside-sees (char ".") (oneOf ".") refl (drop dot s) (p .dot)) in
+          first-in (D or oneOf "_") (oneOf ".") refl s from dot (moved e s) o (omega arith) (omega arith) (p .digits)
+          (inside-sees (char ".") (oneOf ".") refl (drop dot s) (p .dot)) in
           span-lexes x BadFractionalPart _ _ refl _ _ (omega arith) (omega arith) r f
 
       pub fraction-ends : sees S (drop e s) ≡ false → Ends s from e 9
@@ -247,7 +247,7 @@ module _ {s : List ℕ} {from at d n : ℕ} (p : Exponent s from at) (f : d ≡ 
       split (sees (char "+" or char "-") (drop d s))
       (λ k. either (λ x. reads-joined (signed k) (behind "1e5") D (behind "1e5") refl x) (λ x. reads-joined (signed k) (behind "1e5") (char "_") (behind "1e_") refl x))
       (λ k. let q : Reads s from n (behind "1e") = rw (unsigned k) e-reads in
-          either (λ x. reads-joined q (behind "1e5") D (behind "1e5") refl x) (λ x. reads-joined q (behind "1e5") (char "_") (behind "1e_") refl x))
+      either (λ x. reads-joined q (behind "1e5") D (behind "1e5") refl x) (λ x. reads-joined q (behind "1e5") (char "_") (behind "1e_") refl x))
     where
       either : {A : Type 0} → (sees D (drop n s) ≡ true → A) → (sees (char "_") (drop n s) ≡ true → A) → A
       either x y = split (sees D (drop n s)) x (λ m. y (or-other D (char "_") (drop n s) h m))
@@ -259,8 +259,8 @@ module _ {s : List ℕ} {from at d n : ℕ} (p : Exponent s from at) (f : d ≡ 
       split (sees (char "+" or char "-") (drop d s))
       (λ h. reads-stop (signed h) (D or char "_") 24 refl refl (misses-or _ _ _ x y))
       (λ h. let e = unsigned h in
-          let q : Reads s from n (behind "1e") = rw e e-reads in
-          reads-stop q (D or char "_" or char "+" or char "-") 24 refl refl (misses-or _ _ _ x (misses-or _ _ _ y (rw e h))))
+      let q : Reads s from n (behind "1e") = rw e e-reads in
+      reads-stop q (D or char "_" or char "+" or char "-") 24 refl refl (misses-or _ _ _ x (misses-or _ _ _ y (rw e h))))
 
   exponent-empty : sees (D or char "_") (drop n s) ≡ false → groups D n n (drop n s) ≡ Read (cursor n)
   exponent-empty h = groups-read D n n (drop n s) (or-left D (char "_") (drop n s) h) (or-right D (char "_") (drop n s) h)
@@ -282,7 +282,7 @@ module _ {s : List ℕ} {from at d n : ℕ} (p : Exponent s from at) (f : d ≡ 
     exponent-missing k =
         split (sees (D or char "_") (drop n s))
         (λ h. let a = digits-after exponent-run s from (exponent-digits h) (only-any s from n) exponent-group b in
-            absurd (true≢false (sym h ∙ misses-or D (char "_") (drop n s) (rw k (a .digit)) (rw k (a .line)))))
+        absurd (true≢false (sym h ∙ misses-or D (char "_") (drop n s) (rw k (a .digit)) (rw k (a .line)))))
         (λ h. exponent-none (or-left D (char "_") (drop n s) h) (or-right D (char "_") (drop n s) h))
 
     first-e : {i : ℕ} → at < i → i ≤ length s → first (oneOf "eE") (part s from i) ≡ at - from
@@ -354,11 +354,20 @@ module _ {s : List ℕ} {from at : ℕ} (p : Hex s from at) where
       let w = p .two in
       split (sees (char "_") (drop at s))
       (λ h. let z = b ∙ hex-empty at (drop at s) h in
-          let x : g ≡ at = ap firstOf z in
-          let y : e ≡ at = ap endOf z in
-          span-lexes (hex-line h) BadNumber 2 0 refl g (e - g) (omega arith) (omega arith) r f)
+      let x : g ≡ at = ap firstOf z in
+      let y : e ≡ at = ap endOf z in
+      span-lexes (hex-line h) BadNumber 2 0 refl g (e - g) (omega arith) (omega arith) r f)
       (λ h. split (sees H (drop at s))
       (λ k. hex-stuck-lexed r f (omega arith) (digits-stuck hex-run s from (hex-reads k) (only-any s from at) (p .run) (hex-plain b h)))
+      (λ k. absurd (let z = hex-plain b h ∙ groups-read H at at (drop at s) k h in let y : _≡_ {A = Bool} true false = cc in true≢false y)))
+
+  pub hex-span : {g e : ℕ} → Bad (cursor g) (cursor e) ≡ hexGroups at (drop at s) → g ≤ e
+  hex-span {g} {e} b =
+      split (sees (char "_") (drop at s))
+      (λ h. let z = b ∙ hex-empty at (drop at s) h in omega (arith, ap firstOf z, ap endOf z))
+      (λ h. split (sees H (drop at s))
+      (λ k. let stuck = digits-stuck hex-run s from (hex-reads k) (only-any s from at) (p .run) (hex-plain b h) in
+          omega (arith, stuck .inside, stuck .last))
       (λ k. absurd (let z = hex-plain b h ∙ groups-read H at at (drop at s) k h in let y : _≡_ {A = Bool} true false = cc in true≢false y)))
 
   module _ {e : ℕ} (b : Read (cursor e) ≡ hexGroups at (drop at s)) where
@@ -368,7 +377,7 @@ module _ {s : List ℕ} {from at : ℕ} (p : Hex s from at) where
         (λ h. absurd (let z = b ∙ hex-empty at (drop at s) h in let y : _≡_ {A = Bool} true false = cc in true≢false y))
         (λ h. h)
 
-    hex-after : (at ≡ e → ⊥) → After H any s from at e (behind "0x1")
+    pub hex-after : (at ≡ e → ⊥) → After H any s from at e (behind "0x1")
     hex-after n =
         split (sees H (drop at s))
         (λ k. digits-after hex-run s from (hex-reads k) (only-any s from at) (p .run) (hex-plain b starts))
@@ -378,7 +387,7 @@ module _ {s : List ℕ} {from at : ℕ} (p : Hex s from at) where
     hex-missing n =
         split (sees H (drop at s))
         (λ k. let a = digits-after hex-run s from (hex-reads k) (only-any s from at) (p .run) (hex-plain b starts) in
-            absurd (true≢false (sym k ∙ rw n (a .digit))))
+        absurd (true≢false (sym k ∙ rw n (a .digit))))
         (λ k. hex-none k starts)
 
     pub hex-missing-lexed : at ≡ e → (r : Lexed) → r ≡ Refused MalformedHexInteger from (e - from) (cursor from) → Lexes s from r

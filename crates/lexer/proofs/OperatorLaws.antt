@@ -128,6 +128,10 @@ module _ {s : List ℕ} {from at : ℕ} (p : Spelled s from at (bytes "--")) {st
       token-lexes (line-open n) 0 r refl (rw (g ∙ moved-end s stop n) at q))
 
 -- `/*` to and with `*/`, or to the end
+pub comment-opens : {s : List ℕ} {from at : ℕ} → Spelled s from at (bytes "/*") → Reads s from at (behind "/*")
+unfolding behind rules operators isDigit isHexdigit isIdentifierStart isIdentifierContinue isBlank
+comment-opens p = spelled-reads p refl
+
 module _ {s : List ℕ} {from at : ℕ} (p : Reads s from at (behind "/*")) where
   pub comment-ends : {d : ℕ} → d ≡ over (no (char "*")) at s → sees (char "*") (drop d s) ≡ false → Ends s from d 4
   unfolding behind rules operators isDigit isHexdigit isIdentifierStart isIdentifierContinue isBlank

@@ -27,11 +27,11 @@ use Rattle.lexer.proofs.EatLaws.{Reached}
 use Rattle.lexer.proofs.AnswerLaws.{token-lexes, whole-lexes}
 
 -- in a body that the quote q opens, and behind a q in it
-unfoldable pub inside : ℕ → State
-inside q = after (start rules) (q ∷ [])
+unfoldable pub inQuote : ℕ → State
+inQuote q = after (start rules) (q ∷ [])
 
-unfoldable pub outside : ℕ → State
-outside q = after (start rules) (q ∷ q ∷ [])
+unfoldable pub outQuote : ℕ → State
+outQuote q = after (start rules) (q ∷ q ∷ [])
 
 -- the rule of what q closes
 abbrev closed : ℕ → ℕ
@@ -39,23 +39,23 @@ closed q = cond (eqb q 39) 6 7
 
 record Quote (q : ℕ) : Type 0 where
   first : along (start rules) (q ∷ []) ≡ true
-  body : goes (inside q) (no (byte q)) (inside q) && meets (inside q) ≡ true
-  again : goes (outside q) (byte q) (inside q) && meets (inside q) ≡ true
-  close : goes (inside q) (byte q) (outside q) && meets (outside q) ≡ true
-  after-it : goes (outside q) (no (byte q)) [] ≡ true
-  open-rule : met (inside q) ≡ 16 ∷ []
-  closed-rule : met (outside q) ≡ closed q ∷ []
+  body : goes (inQuote q) (no (byte q)) (inQuote q) && meets (inQuote q) ≡ true
+  again : goes (outQuote q) (byte q) (inQuote q) && meets (inQuote q) ≡ true
+  close : goes (inQuote q) (byte q) (outQuote q) && meets (outQuote q) ≡ true
+  after-it : goes (outQuote q) (no (byte q)) [] ≡ true
+  open-rule : met (inQuote q) ≡ 16 ∷ []
+  closed-rule : met (outQuote q) ≡ closed q ∷ []
 
 string-quote : Quote 39
-unfolding inside outside rules operators isDigit isHexdigit isIdentifierStart isIdentifierContinue isBlank
+unfolding inQuote outQuote rules operators isDigit isHexdigit isIdentifierStart isIdentifierContinue isBlank
 string-quote = record { first = refl; body = refl; again = refl; close = refl; after-it = refl; open-rule = refl; closed-rule = refl }
 
 name-quote : Quote 34
-unfolding inside outside rules operators isDigit isHexdigit isIdentifierStart isIdentifierContinue isBlank
+unfolding inQuote outQuote rules operators isDigit isHexdigit isIdentifierStart isIdentifierContinue isBlank
 name-quote = record { first = refl; body = refl; again = refl; close = refl; after-it = refl; open-rule = refl; closed-rule = refl }
 
 backtick : Quote 96
-unfolding inside outside rules operators isDigit isHexdigit isIdentifierStart isIdentifierContinue isBlank
+unfolding inQuote outQuote rules operators isDigit isHexdigit isIdentifierStart isIdentifierContinue isBlank
 backtick = record { first = refl; body = refl; again = refl; close = refl; after-it = refl; open-rule = refl; closed-rule = refl }
 
 quote : (q : ℕ) → isQuote q ≡ true → Quote q
@@ -69,33 +69,34 @@ quote q =
     (λ g. rw (e, f, g) (λ h. absurd (true≢false (sym h))))))
 
 module _ (q : ℕ) (i : isQuote q ≡ true) {s : List ℕ} {from : ℕ} where
-  pub quote-opens : At (byte q) from s → {d : ℕ} → d ≡ moved from s → Reads s from d (inside q)
-  unfolding inside
+  pub quote-opens : At (byte q) from s → {d : ℕ} → d ≡ moved from s → Reads s from d (inQuote q)
+  unfolding inQuote
   quote-opens h f = spelled-reads (spelled-first q s from h f) (quote q i .first)
 
-  pub quote-open : {at d : ℕ} → Reads s from at (inside q) → d ≡ over (no (byte q)) at s → sees (byte q) (drop d s) ≡ false → Ends s from d 16
+  pub quote-open : {at d : ℕ} → Reads s from at (inQuote q) → d ≡ over (no (byte q)) at s → sees (byte q) (drop d s) ≡ false → Ends s from d 16
   quote-open p f h =
       reads-end (reads-while p (no (byte q)) (quote q i .body) f) 16 (quote q i .open-rule) (at-end (byte q) _ h (over-stops _ _ _ _ f))
 
-  pub quote-found : {at d : ℕ} → Reads s from at (inside q) → Reached q s at d → Reads s from d (outside q)
-  quote-found p r = reads-eat (reads-while p (no (byte q)) (quote q i .body) (r .run)) (byte q) (outside q) (quote q i .close) (r .seen) (r .next)
+  pub quote-found : {at d : ℕ} → Reads s from at (inQuote q) → Reached q s at d → Reads s from d (outQuote q)
+  quote-found p r = reads-eat (reads-while p (no (byte q)) (quote q i .body) (r .run)) (byte q) (outQuote q) (quote q i .close) (r .seen) (r .next)
 
-  pub quote-closed : {at : ℕ} → Reads s from at (outside q) → sees (byte q) (drop at s) ≡ false → Ends s from at (closed q)
+  pub quote-closed : {at : ℕ} → Reads s from at (outQuote q) → sees (byte q) (drop at s) ≡ false → Ends s from at (closed q)
   quote-closed p h = reads-stop p (byte q) (closed q) (quote q i .after-it) (quote q i .closed-rule) h
 
-  pub quote-again : {at d : ℕ} → Reads s from at (outside q) → sees (byte q) (drop at s) ≡ true → d ≡ moved at s → Reads s from d (inside q)
-  quote-again p h f = reads-eat p (byte q) (inside q) (quote q i .again) h f
+  pub quote-again : {at d : ℕ} → Reads s from at (outQuote q) → sees (byte q) (drop at s) ≡ true → d ≡ moved at s → Reads s from d (inQuote q)
+  quote-again p h f = reads-eat p (byte q) (inQuote q) (quote q i .again) h f
 
 pub open-lexed : {s : List ℕ} {from at : ℕ} → Ends s from at 16 → (r : Lexed) → r ≡ Refused UnterminatedLiteral from (at - from) (cursor from) → Lexes s from r
 unfolding rules answer
 open-lexed e r f = whole-lexes e UnterminatedLiteral r refl f
 
-pub quoted-lexed : (q : ℕ) {s : List ℕ} {from at : ℕ} → Ends s from at (closed q) → (r : Lexed) → r ≡ Token (quoteKind q) from (at - from) (cursor at) → Lexes s from r
+pub quoted-lexed : (q : ℕ) {s : List ℕ} {from at : ℕ} → Ends s from at (closed q) → (k : ℕ) → k ≡ quoteKind q → (r : Lexed) → r ≡ Token k from (at - from) (cursor at)
+    → Lexes s from r
 unfolding rules answer
-quoted-lexed q {s} {from} {at} =
+quoted-lexed q =
     split (eqb q 39)
-    (λ e. rw e (λ p r f. token-lexes p 29 r refl f))
-    (λ e. rw e (λ p r f. token-lexes p 30 r refl f))
+    (λ e. rw e (λ p k d r f. token-lexes p k r (rw d) f))
+    (λ e. rw e (λ p k d r f. token-lexes p k r (rw d) f))
 
 -- behind `x'`: digits, an even number or an odd one
 module _ {s : List ℕ} {from at : ℕ} (p : Reads s from at (behind "x'")) {d : ℕ} (f : d ≡ over H at s) where

@@ -2,8 +2,8 @@
 // order of the Rust that they are ported from; `next` chooses among them by the first byte.
 pub mod cursor;
 mod digits;
+mod identifiers;
 pub mod lexed;
-mod names;
 pub mod next;
 mod numbers;
 mod operators;

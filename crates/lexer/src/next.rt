@@ -1,11 +1,11 @@
 // The longest lexeme at a cursor.
 use crate::cursor::Cursor;
 use crate::cursor::Peek;
+use crate::identifiers::eat_blob_or_id;
+use crate::identifiers::eat_illegal;
+use crate::identifiers::eat_unrecognized;
 use crate::lexed::Lexed;
 use crate::lexed::Refusal;
-use crate::names::eat_blob_or_id;
-use crate::names::eat_illegal;
-use crate::names::eat_unrecognized;
 use crate::numbers::eat_dot_or_frac;
 use crate::numbers::eat_number;
 use crate::operators::eat_array_contains_or_var;

@@ -1,0 +1,72 @@
+-- `lexer::numbers::eat_dot_after_digits` meets its contract. Assumes nothing.
+use mathlib.Core.Path.{_∙_, sym}
+use borrow.Author.Needs.{needs}
+use Rattle.lexer.proofs.NumberLaws.{dot-e, dot-ends, dot-fraction, float-lexed}
+use Rattle.lexer.proofs.numbers.eat_dot_after_digits.Statement.{statement}
+use Rattle.lexer.proofs.numbers.eat_dot_after_digits.Tie as tie
+
+eat-requires : tie.Need-eat-requires
+eat-requires c κs = search needs
+
+sees-digit-requires : tie.Need-sees-digit-requires
+sees-digit-requires c κs = search needs
+
+eat-frac-requires : tie.Need-eat-frac-requires
+eat-frac-requires c κs =
+    let if1 = c .if1 in
+    let sees-digit = c .before .sees-digit in
+    let eat = c .before .before .eat in
+    let pre = c .before .before .before .before .pre in
+    dot-fraction pre (eat .ensures) (sym (sees-digit .ensures) ∙ if1 .taken)
+
+returns : tie.Need-returns
+returns c = c .eat-frac .ensures
+
+sees-either-requires : tie.Need-sees-either-requires
+sees-either-requires c κs = search needs
+
+eat-expo-requires : tie.Need-eat-expo-requires
+eat-expo-requires c κs =
+    let if2 = c .if2 in
+    let sees-either = c .before .sees-either in
+    let eat = c .before .before .before .before .eat in
+    let pre = c .before .before .before .before .before .before .pre in
+    dot-e pre (eat .ensures) (sym (sees-either .ensures) ∙ if2 .taken)
+
+returns-2 : tie.Need-returns-2
+returns-2 c = c .eat-expo .ensures
+
+token-requires : tie.Need-token-requires
+token-requires c κs =
+    let if2 = c .if2 in
+    let sees-either = c .before .sees-either in
+    let if1 = c .before .before .if1 in
+    let sees-digit = c .before .before .before .sees-digit in
+    let eat = c .before .before .before .before .eat in
+    let pre = c .before .before .before .before .before .before .pre in
+    dot-ends pre (eat .ensures) (sym (sees-digit .ensures) ∙ if1 .left) (sym (sees-either .ensures) ∙ if2 .left) .ordered
+
+returns-3 : tie.Need-returns-3
+returns-3 c =
+    let token = c .token in
+    let if2 = c .before .if2 in
+    let sees-either = c .before .before .sees-either in
+    let if1 = c .before .before .before .if1 in
+    let sees-digit = c .before .before .before .before .sees-digit in
+    let eat = c .before .before .before .before .before .eat in
+    let pre = c .before .before .before .before .before .before .before .pre in
+    float-lexed (dot-ends pre (eat .ensures) (sym (sees-digit .ensures) ∙ if1 .left) (sym (sees-either .ensures) ∙ if2 .left)) _ (token .ensures)
+
+pub eat-dot-after-digits-spec : {M : Type 1} → statement M
+eat-dot-after-digits-spec =
+    tie.close
+    (tie.spec
+    eat-requires
+    sees-digit-requires
+    eat-frac-requires
+    returns
+    sees-either-requires
+    eat-expo-requires
+    returns-2
+    token-requires
+    returns-3)

@@ -1,0 +1,136 @@
+-- `lexer::numbers::eat_expo` meets its contract. Assumes nothing.
+use native.Mathlib.Omega.{arith}
+use mathlib.Core.Path.{_∙_, sym}
+use borrow.Author.Needs.{needs}
+use Rattle.grammar.proofs.Walk.{moved-up, optional-up}
+use Rattle.lexer.proofs.NumberLaws.{exponent-after, exponent-ends, exponent-missing-lexed, exponent-stuck, exponent-word-lexed, float-lexed, stuck-lexed}
+use Rattle.lexer.proofs.numbers.eat_expo.Statement.{statement}
+use Rattle.lexer.proofs.numbers.eat_expo.Tie as tie
+use Rattle.lexer.proofs.numbers.eat_expo.Reads as reads
+
+eat-requires : tie.Need-eat-requires
+eat-requires c κs = search needs
+
+eat-either-requires : tie.Need-eat-either-requires
+eat-either-requires c κs = search needs
+
+eat-while-number-digit-requires : tie.Need-eat-while-number-digit-requires
+eat-while-number-digit-requires c κs = search needs
+
+enum-known-from : tie.Need-enum-known-from
+enum-known-from c = search needs
+
+refused-requires : tie.Need-refused-requires
+refused-requires c κs =
+    let from = c .before .from in
+    let eat-while-number-digit = c .before .before .before .eat-while-number-digit in
+    let eat-either = c .before .before .before .before .eat-either in
+    let eat = c .before .before .before .before .before .eat in
+    let pre = c .before .before .before .before .before .before .before .pre in
+    let stuck = exponent-stuck pre (eat .ensures) (eat-either .ensures) (sym (from .given .1) ∙ eat-while-number-digit .ensures) in
+    omega (arith, stuck .inside, stuck .last)
+
+enum-known-end : tie.Need-enum-known-end
+enum-known-end c = search needs
+
+refused-requires-2 : tie.Need-refused-requires-2
+refused-requires-2 c κs =
+    let if1 = c .if1 in
+    let eat-either = c .before .before .before .before .before .before .before .eat-either in
+    let eat = c .before .before .before .before .before .before .before .before .eat in
+        omega (arith, if1 .taken, moved-up _ _ _ (eat .ensures), optional-up _ _ _ _ (eat-either .ensures))
+
+returns : tie.Need-returns
+returns c =
+    let refused2 = c .refused2 in
+    let if1 = c .before .if1 in
+    let end = c .before .before .before .before .before .end in
+    let eat-while-number-digit = c .before .before .before .before .before .before .before .eat-while-number-digit in
+    let eat-either = c .before .before .before .before .before .before .before .before .eat-either in
+    let eat = c .before .before .before .before .before .before .before .before .before .eat in
+    let pre = c .before .before .before .before .before .before .before .before .before .before .before .pre in
+        exponent-missing-lexed pre (eat .ensures) (eat-either .ensures) (sym (end .given .1) ∙ eat-while-number-digit .ensures) (if1 .taken) _ (refused2 .ensures)
+
+sees-start-requires : tie.Need-sees-start-requires
+sees-start-requires c κs = search needs
+
+refused-requires-3 : tie.Need-refused-requires-3
+refused-requires-3 c κs =
+    let if1 = c .before .before .if1 in
+    let end = c .before .before .before .before .before .before .end in
+    let eat-while-number-digit = c .before .before .before .before .before .before .before .before .eat-while-number-digit in
+    let eat-either = c .before .before .before .before .before .before .before .before .before .eat-either in
+    let eat = c .before .before .before .before .before .before .before .before .before .before .eat in
+    let pre = c .before .before .before .before .before .before .before .before .before .before .before .before .pre in
+    let after = exponent-after pre (eat .ensures) (eat-either .ensures) (sym (end .given .1) ∙ eat-while-number-digit .ensures) (if1 .left) in
+    omega (arith, after .up, moved-up _ _ _ (eat .ensures), optional-up _ _ _ _ (eat-either .ensures))
+
+returns-2 : tie.Need-returns-2
+returns-2 c =
+    let refused3 = c .refused3 in
+    let if2 = c .before .if2 in
+    let sees-start = c .before .before .sees-start in
+    let if1 = c .before .before .before .if1 in
+    let end = c .before .before .before .before .before .before .before .end in
+    let eat-while-number-digit = c .before .before .before .before .before .before .before .before .before .eat-while-number-digit in
+    let eat-either = c .before .before .before .before .before .before .before .before .before .before .eat-either in
+    let eat = c .before .before .before .before .before .before .before .before .before .before .before .eat in
+    let pre = c .before .before .before .before .before .before .before .before .before .before .before .before .before .pre in
+    let read = sym (end .given .1) ∙ eat-while-number-digit .ensures in
+    let seen = sym (sees-start .ensures) ∙ if2 .taken in
+    exponent-word-lexed pre (eat .ensures) (eat-either .ensures) read (if1 .left) seen _ (refused3 .ensures)
+
+token-requires : tie.Need-token-requires
+token-requires c κs =
+    let if1 = c .before .before .if1 in
+    let end = c .before .before .before .before .before .before .end in
+    let eat-while-number-digit = c .before .before .before .before .before .before .before .before .eat-while-number-digit in
+    let eat-either = c .before .before .before .before .before .before .before .before .before .eat-either in
+    let eat = c .before .before .before .before .before .before .before .before .before .before .eat in
+    let pre = c .before .before .before .before .before .before .before .before .before .before .before .before .pre in
+        exponent-after pre (eat .ensures) (eat-either .ensures) (sym (end .given .1) ∙ eat-while-number-digit .ensures) (if1 .left) .reads .ordered
+
+returns-3 : tie.Need-returns-3
+returns-3 c =
+    let refused = c .refused in
+    let from = c .before .before .from in
+    let eat-while-number-digit = c .before .before .before .before .eat-while-number-digit in
+    let eat-either = c .before .before .before .before .before .eat-either in
+    let eat = c .before .before .before .before .before .before .eat in
+    let pre = c .before .before .before .before .before .before .before .before .pre in
+    let stuck = exponent-stuck pre (eat .ensures) (eat-either .ensures) (sym (from .given .1) ∙ eat-while-number-digit .ensures) in
+    stuck-lexed _ (refused .ensures) stuck
+
+returns-4 : tie.Need-returns-4
+returns-4 c =
+    let token = c .token in
+    let if2 = c .before .if2 in
+    let sees-start = c .before .before .sees-start in
+    let if1 = c .before .before .before .if1 in
+    let end = c .before .before .before .before .before .before .before .end in
+    let eat-while-number-digit = c .before .before .before .before .before .before .before .before .before .eat-while-number-digit in
+    let eat-either = c .before .before .before .before .before .before .before .before .before .before .eat-either in
+    let eat = c .before .before .before .before .before .before .before .before .before .before .before .eat in
+    let pre = c .before .before .before .before .before .before .before .before .before .before .before .before .before .pre in
+    let read = sym (end .given .1) ∙ eat-while-number-digit .ensures in
+    let ends = exponent-ends pre (eat .ensures) (eat-either .ensures) read (if1 .left) (sym (sees-start .ensures) ∙ if2 .left) in
+    float-lexed ends _ (token .ensures)
+
+pub eat-expo-spec : {M : Type 1} → statement M
+eat-expo-spec =
+    tie.close
+    (tie.spec
+    eat-requires
+    eat-either-requires
+    eat-while-number-digit-requires
+    enum-known-from
+    refused-requires
+    enum-known-end
+    refused-requires-2
+    returns
+    sees-start-requires
+    refused-requires-3
+    returns-2
+    token-requires
+    returns-3
+    returns-4)

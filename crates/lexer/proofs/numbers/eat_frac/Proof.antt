@@ -1,0 +1,111 @@
+-- `lexer::numbers::eat_frac` meets its contract. Assumes nothing.
+use native.Mathlib.Omega.{arith}
+use mathlib.Core.Path.{_∙_, sym}
+use borrow.Author.Needs.{needs}
+use Rattle.lexer.proofs.NumberLaws.{float-lexed, fraction-after, fraction-e, fraction-ends, fraction-stuck, fraction-word-lexed, stuck-lexed}
+use Rattle.lexer.proofs.numbers.eat_frac.Statement.{statement}
+use Rattle.lexer.proofs.numbers.eat_frac.Tie as tie
+use Rattle.lexer.proofs.numbers.eat_frac.Reads as reads
+
+eat-while-number-digit-requires : tie.Need-eat-while-number-digit-requires
+eat-while-number-digit-requires c κs = search needs
+
+enum-known-from : tie.Need-enum-known-from
+enum-known-from c = search needs
+
+refused-requires : tie.Need-refused-requires
+refused-requires c κs =
+    let from = c .before .from in
+    let eat-while-number-digit = c .before .before .before .eat-while-number-digit in
+    let pre = c .before .before .before .before .before .pre in
+    let stuck = fraction-stuck pre (sym (from .given .1) ∙ eat-while-number-digit .ensures) in
+    omega (arith, stuck .inside, stuck .last)
+
+enum-known-end : tie.Need-enum-known-end
+enum-known-end c = search needs
+
+sees-either-requires : tie.Need-sees-either-requires
+sees-either-requires c κs = search needs
+
+eat-expo-requires : tie.Need-eat-expo-requires
+eat-expo-requires c κs =
+    let if1 = c .if1 in
+    let sees-either = c .before .sees-either in
+    let end = c .before .before .before .end in
+    let eat-while-number-digit = c .before .before .before .before .before .eat-while-number-digit in
+    let pre = c .before .before .before .before .before .before .before .pre in
+    let after = fraction-after pre (sym (end .given .1) ∙ eat-while-number-digit .ensures) in
+    fraction-e pre after (sym (sees-either .ensures) ∙ if1 .taken)
+
+returns : tie.Need-returns
+returns c = c .eat-expo .ensures
+
+sees-start-requires : tie.Need-sees-start-requires
+sees-start-requires c κs = search needs
+
+refused-requires-2 : tie.Need-refused-requires-2
+refused-requires-2 c κs =
+    let end = c .before .before .before .before .before .end in
+    let eat-while-number-digit = c .before .before .before .before .before .before .before .eat-while-number-digit in
+    let pre = c .before .before .before .before .before .before .before .before .before .pre in
+    let after = fraction-after pre (sym (end .given .1) ∙ eat-while-number-digit .ensures) in
+    omega (arith, after .up, pre .next)
+
+returns-2 : tie.Need-returns-2
+returns-2 c =
+    let refused2 = c .refused2 in
+    let if2 = c .before .if2 in
+    let sees-start = c .before .before .sees-start in
+    let if1 = c .before .before .before .if1 in
+    let sees-either = c .before .before .before .before .sees-either in
+    let end = c .before .before .before .before .before .before .end in
+    let eat-while-number-digit = c .before .before .before .before .before .before .before .before .eat-while-number-digit in
+    let pre = c .before .before .before .before .before .before .before .before .before .before .pre in
+    let after = fraction-after pre (sym (end .given .1) ∙ eat-while-number-digit .ensures) in
+    fraction-word-lexed pre after (sym (sees-either .ensures) ∙ if1 .left) (sym (sees-start .ensures) ∙ if2 .taken) _ (refused2 .ensures)
+
+token-requires : tie.Need-token-requires
+token-requires c κs =
+    let end = c .before .before .before .before .before .end in
+    let eat-while-number-digit = c .before .before .before .before .before .before .before .eat-while-number-digit in
+    let pre = c .before .before .before .before .before .before .before .before .before .pre in
+    fraction-after pre (sym (end .given .1) ∙ eat-while-number-digit .ensures) .reads .ordered
+
+returns-3 : tie.Need-returns-3
+returns-3 c =
+    let refused = c .refused in
+    let from = c .before .before .from in
+    let eat-while-number-digit = c .before .before .before .before .eat-while-number-digit in
+    let pre = c .before .before .before .before .before .before .pre in
+    stuck-lexed _ (refused .ensures) (fraction-stuck pre (sym (from .given .1) ∙ eat-while-number-digit .ensures))
+
+returns-4 : tie.Need-returns-4
+returns-4 c =
+    let token = c .token in
+    let if2 = c .before .if2 in
+    let sees-start = c .before .before .sees-start in
+    let if1 = c .before .before .before .if1 in
+    let sees-either = c .before .before .before .before .sees-either in
+    let end = c .before .before .before .before .before .before .end in
+    let eat-while-number-digit = c .before .before .before .before .before .before .before .before .eat-while-number-digit in
+    let pre = c .before .before .before .before .before .before .before .before .before .before .pre in
+    let after = fraction-after pre (sym (end .given .1) ∙ eat-while-number-digit .ensures) in
+    float-lexed (fraction-ends pre after (sym (sees-either .ensures) ∙ if1 .left) (sym (sees-start .ensures) ∙ if2 .left)) _ (token .ensures)
+
+pub eat-frac-spec : {M : Type 1} → statement M
+eat-frac-spec =
+    tie.close
+    (tie.spec
+    eat-while-number-digit-requires
+    enum-known-from
+    refused-requires
+    enum-known-end
+    sees-either-requires
+    eat-expo-requires
+    returns
+    sees-start-requires
+    refused-requires-2
+    returns-2
+    token-requires
+    returns-3
+    returns-4)
