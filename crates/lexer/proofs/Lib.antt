@@ -8,3 +8,4 @@ pub mod ParameterLaws
 pub mod SpanLaws
 pub mod DigitLaws
 pub mod NumberLaws
+pub mod NextLaws

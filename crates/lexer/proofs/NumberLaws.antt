@@ -367,7 +367,7 @@ module _ {s : List ℕ} {from at : ℕ} (p : Hex s from at) where
       (λ h. let z = b ∙ hex-empty at (drop at s) h in omega (arith, ap firstOf z, ap endOf z))
       (λ h. split (sees H (drop at s))
       (λ k. let stuck = digits-stuck hex-run s from (hex-reads k) (only-any s from at) (p .run) (hex-plain b h) in
-          omega (arith, stuck .inside, stuck .last))
+      omega (arith, stuck .inside, stuck .last))
       (λ k. absurd (let z = hex-plain b h ∙ groups-read H at at (drop at s) k h in let y : _≡_ {A = Bool} true false = cc in true≢false y)))
 
   module _ {e : ℕ} (b : Read (cursor e) ≡ hexGroups at (drop at s)) where

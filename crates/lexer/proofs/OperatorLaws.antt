@@ -68,7 +68,7 @@ one-is k (j ∷ i ∷ l) e = absurd (true≢false (sym e))
 abbrev fits : List ℕ → Bool
 fits w = along (start rules) w && goes (after (start rules) w) (no (follow w)) [] && isOne 5 (met (after (start rules) w))
 
-abbrev isColon : List ℕ → Bool
+abbrev pub isColon : List ℕ → Bool
 isColon w = same w (bytes ":")
 
 all-fit : every (λ (e : Entry). isColon (e .word) || fits (e .word)) operators ≡ true

@@ -34,7 +34,7 @@ eat-dot-after-digits-requires c κs =
     let end = c .before .before .before .end in
     let eat-while-number-digit = c .before .before .before .before .before .eat-while-number-digit in
     let pre = c .before .before .before .before .before .before .before .pre in
-        integer-dot (decimal-after pre (sym (end .given .1) ∙ eat-while-number-digit .ensures)) (sym (sees .ensures) ∙ if1 .taken)
+    integer-dot (decimal-after pre (sym (end .given .1) ∙ eat-while-number-digit .ensures)) (sym (sees .ensures) ∙ if1 .taken)
 
 returns : tie.Need-returns
 returns c = c .eat-dot-after-digits .ensures
@@ -49,7 +49,7 @@ eat-expo-requires c κs =
     let end = c .before .before .before .before .before .end in
     let eat-while-number-digit = c .before .before .before .before .before .before .before .eat-while-number-digit in
     let pre = c .before .before .before .before .before .before .before .before .before .pre in
-        integer-e (decimal-after pre (sym (end .given .1) ∙ eat-while-number-digit .ensures)) (sym (sees-either .ensures) ∙ if2 .taken)
+    integer-e (decimal-after pre (sym (end .given .1) ∙ eat-while-number-digit .ensures)) (sym (sees-either .ensures) ∙ if2 .taken)
 
 returns-2 : tie.Need-returns-2
 returns-2 c = c .eat-expo .ensures

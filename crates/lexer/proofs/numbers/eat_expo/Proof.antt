@@ -38,7 +38,7 @@ refused-requires-2 c κs =
     let if1 = c .if1 in
     let eat-either = c .before .before .before .before .before .before .before .eat-either in
     let eat = c .before .before .before .before .before .before .before .before .eat in
-        omega (arith, if1 .taken, moved-up _ _ _ (eat .ensures), optional-up _ _ _ _ (eat-either .ensures))
+    omega (arith, if1 .taken, moved-up _ _ _ (eat .ensures), optional-up _ _ _ _ (eat-either .ensures))
 
 returns : tie.Need-returns
 returns c =
@@ -49,7 +49,7 @@ returns c =
     let eat-either = c .before .before .before .before .before .before .before .before .eat-either in
     let eat = c .before .before .before .before .before .before .before .before .before .eat in
     let pre = c .before .before .before .before .before .before .before .before .before .before .before .pre in
-        exponent-missing-lexed pre (eat .ensures) (eat-either .ensures) (sym (end .given .1) ∙ eat-while-number-digit .ensures) (if1 .taken) _ (refused2 .ensures)
+    exponent-missing-lexed pre (eat .ensures) (eat-either .ensures) (sym (end .given .1) ∙ eat-while-number-digit .ensures) (if1 .taken) _ (refused2 .ensures)
 
 sees-start-requires : tie.Need-sees-start-requires
 sees-start-requires c κs = search needs
@@ -88,7 +88,7 @@ token-requires c κs =
     let eat-either = c .before .before .before .before .before .before .before .before .before .eat-either in
     let eat = c .before .before .before .before .before .before .before .before .before .before .eat in
     let pre = c .before .before .before .before .before .before .before .before .before .before .before .before .pre in
-        exponent-after pre (eat .ensures) (eat-either .ensures) (sym (end .given .1) ∙ eat-while-number-digit .ensures) (if1 .left) .reads .ordered
+    exponent-after pre (eat .ensures) (eat-either .ensures) (sym (end .given .1) ∙ eat-while-number-digit .ensures) (if1 .left) .reads .ordered
 
 returns-3 : tie.Need-returns-3
 returns-3 c =

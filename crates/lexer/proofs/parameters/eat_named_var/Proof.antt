@@ -43,7 +43,7 @@ refused-requires c κs =
     let if1 = c .before .before .if1 in
     let sees-continue = c .before .before .before .sees-continue in
     let loop = c .before .before .before .before .loop in
-        nameless-ends (loop .inv) (sym (sees-continue .ensures) ∙ if1 .left) (sym (sees-pair .ensures) ∙ not-true _ (if2 .taken)) .ordered
+    nameless-ends (loop .inv) (sym (sees-continue .ensures) ∙ if1 .left) (sym (sees-pair .ensures) ∙ not-true _ (if2 .taken)) .ordered
 
 returns-2 : tie.Need-returns-2 Inv-loop μ-loop
 returns-2 c =

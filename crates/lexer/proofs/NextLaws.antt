@@ -1,0 +1,83 @@
+-- The dispatch: by the first byte. Assumes nothing.
+use Prim.Native.Nat.{ℕ, suc, _+_, _-_, _≤_, _<_}
+use native.Mathlib.Omega.{arith}
+use mathlib.Core.Path.{_≡_, refl, sym, _∙_, ap, subst}
+use mathlib.Core.Bool.{Bool, true, false, not, _||_, true≢false}
+use mathlib.Core.List.{List, [], _∷_}
+use mathlib.Core.Logic.{inl, inr}
+use lib.Dec.{eqb, ltb}
+use lib.ListN.{length, getD, drop}
+use lib.Seq.{drop-cons}
+use borrow.Author.Tests.{eqb-true, eq-eqb, ne-eqb, ltb-true, ltb-false}
+use Rattle.keywords.specs.Text.{bytes}
+use Rattle.keywords.specs.Words.{kindIn}
+use Rattle.keywords.proofs.Logic.{split}
+use Rattle.words.specs.Bytes.{isDigit, isHexdigit, isIdentifierStart, isIdentifierContinue, isBlank}
+use Rattle.grammar.specs.Form.{Set, none, D, S, blank, byte, no, _or_, holds}
+use Rattle.grammar.specs.Classes.{operators, rules, U}
+use Rattle.grammar.specs.Runs.{sees, moved}
+use Rattle.grammar.proofs.Walk.{inside, inside-holds, misses-none, moved-one, spelled-first}
+use Rattle.lexer.specs.declared.cursor.Peek.the-variants.{Byte, Nothing}
+use Rattle.lexer.specs.declared.lexed.Refusal.the-variants.{OffsetPastEnd}
+use Rattle.lexer.specs.declared.lexed.Lexed.{Lexed}
+use Rattle.lexer.specs.declared.lexed.Lexed.the-variants.{Token, End, Refused}
+use Rattle.lexer.specs.Eaten.{cursor, head}
+use Rattle.lexer.specs.Places.{At, isLater}
+use Rattle.lexer.specs.Values.{Lexes}
+use Rattle.lexer.proofs.EatLaws.{head-sees}
+use Rattle.lexer.proofs.OperatorLaws.{follow, isOperator, isColon, operator-lexed}
+
+-- past the end, and at the end
+pub past-lexed : (s : List ℕ) (at : ℕ) → length s < at → Lexes s at (Refused OffsetPastEnd 0 0 (cursor at))
+unfolding Lexes
+past-lexed s at h = inl (h, refl)
+
+pub end-lexed : (s : List ℕ) (at : ℕ) → at ≤ length s → Nothing ≡ head (drop at s) → Lexes s at (End (cursor at))
+unfolding Lexes head
+end-lexed s at h e =
+    split (ltb at (length s))
+    (λ l. absurd (let z = e ∙ ap head (drop-cons s at 0 (ltb-true at (length s) l)) in let y : _≡_ {A = Bool} true false = cc in true≢false y))
+    (λ l. let k = ltb-false at (length s) l in inr (inl (omega arith, refl)))
+
+-- the byte that is seen
+pub byte-at : (t : Set) (k b : ℕ) (l : List ℕ) → Byte b ≡ head l → b ≡ k → holds t k ≡ true → sees t l ≡ true
+byte-at t k b l e f h = sym (head-sees t b l e) ∙ ap (holds t) f ∙ h
+
+pub byte-seen : (b : ℕ) (l : List ℕ) → Byte b ≡ head l → sees (byte b) l ≡ true
+byte-seen b l e = sym (head-sees (byte b) b l e) ∙ eq-eqb b b refl
+
+pub byte-in : (t : Set) (b : ℕ) (l : List ℕ) → sees (byte b) l ≡ true → holds t b ≡ true → sees t l ≡ true
+unfolding sees
+byte-in t b [] h e = absurd (true≢false (sym h))
+byte-in t b (x ∷ l) h e = rw (eqb-true x b h) e
+
+-- operators of one byte that nothing makes longer
+pub single-lexed : (b : ℕ) (s : List ℕ) (at : ℕ) → At (byte b) at s → isColon (b ∷ []) ≡ false → isOperator (b ∷ []) operators ≡ true → follow (b ∷ []) ≡ none
+    → (r : Lexed) → r ≡ Token (kindIn operators (b ∷ [])) at 1 (cursor (at + 1)) → Lexes s at r
+single-lexed b s at h n o f r e =
+    let d : 1 ≡ at + 1 - at = omega arith in
+    operator-lexed (spelled-first b s at h (sym (moved-one (byte b) s at h))) n o (rw f (misses-none _)) r (e ∙ rw (← d))
+
+-- a byte is none of these
+abbrev pub Apart : ℕ → List ℕ → Type 0
+Apart b [] = Unit {0}
+Apart b (k ∷ l) = Apart b l × (b ≡ k → ⊥)
+
+abbrev among : List ℕ → Set
+among [] = none
+among (k ∷ l) = byte k or among l
+
+apart-holds : (b : ℕ) (l : List ℕ) → Apart b l → holds (among l) b ≡ false
+apart-holds b [] a = refl
+apart-holds b (k ∷ l) a = rw (ne-eqb b k (a .1), apart-holds b l (a .0))
+
+-- the bytes that the dispatch names, from the last: any other that is no blank starts a number or a word, or nothing
+abbrev named : List ℕ
+named = bytes ":#$?@][.`\"'~&,|!><=%/*+;)(-"
+
+pub later : (b : ℕ) → isBlank b ≡ false → Apart b named → isLater b ≡ true
+unfolding isDigit isIdentifierStart isBlank
+later b n a = inside-holds (no (blank or among named)) (D or S or U) refl b (rw (n, apart-holds b named a))
+
+pub unknown : (b : ℕ) → isLater b ≡ true → isDigit b ≡ false → isIdentifierStart b ≡ false → holds U b ≡ true
+unknown b h d i = rw (d, i) at h
