@@ -1,5 +1,6 @@
 //! The published lexer of turso_parser 0.8.3, unchanged, answering on standard output.
 
+mod compare;
 mod list;
 mod records;
 mod texts;
@@ -43,8 +44,9 @@ fn main() -> io::Result<ExitCode> {
             list::print(&mut out)?;
             true
         }
+        "compare" => compare::compare(&mut out, &std::env::args().skip(2).collect::<Vec<_>>())?,
         _ => {
-            eprintln!("modes: next (records in, tokens out), word (records in, kinds out), list");
+            eprintln!("modes: next (records in, tokens out), word (records in, kinds out), list, compare");
             return Ok(ExitCode::from(2));
         }
     };

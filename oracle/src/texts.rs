@@ -10,6 +10,7 @@ mod quoted;
 mod words;
 
 use std::collections::HashSet;
+pub use words::keywords;
 
 #[derive(Clone, PartialEq, Eq, Hash)]
 pub enum Question {

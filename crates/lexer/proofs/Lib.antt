@@ -9,3 +9,4 @@ pub mod SpanLaws
 pub mod DigitLaws
 pub mod NumberLaws
 pub mod NextLaws
+pub mod Moves

@@ -16,7 +16,7 @@ pub fn ask(texts: &mut Texts) {
 }
 
 /// The arms of the published lookup, read from its own text.
-fn keywords() -> Vec<Vec<u8>> {
+pub fn keywords() -> Vec<Vec<u8>> {
     let arm = |line: &str| Some(line.trim().strip_prefix("b\"")?.split_once("\" =>")?.0.into());
     let words: Vec<_> = PUBLISHED.lines().filter_map(arm).collect();
     assert_eq!(words.len(), 151);

@@ -1,0 +1,140 @@
+//! The published lexer beside another program that answers the same records: texts by many rules, answers byte for byte.
+
+mod alphabets;
+mod corpus;
+mod damage;
+mod families;
+mod lexemes;
+mod random;
+mod statements;
+
+use crate::print_walk;
+use corpus::Corpus;
+use families::Family;
+use random::Random;
+use std::io::{self, Error, Read, Write};
+use std::path::Path;
+use std::process::{Command, Stdio};
+use std::sync::atomic::{AtomicU64, Ordering};
+use std::sync::Mutex;
+use std::thread;
+
+/// How many texts one run of the program is asked: enough that starting it costs little.
+const PIECE: u64 = 50_000;
+
+/// COUNT SEED FOLDER PROGRAM [ARG..]: about COUNT texts; `-` for no folder. True if the program answers as the lexer does.
+pub fn compare(out: &mut impl Write, args: &[String]) -> io::Result<bool> {
+    let [count, seed, folder, program @ ..] = args else {
+        return Err(Error::other("compare COUNT SEED FOLDER PROGRAM [ARG..]"));
+    };
+    let number = |word: &String| word.parse::<u64>().map_err(Error::other);
+    let (count, seed) = (number(count)?, number(seed)?);
+    let corpus = if folder == "-" { Corpus::default() } else { Corpus::read(Path::new(folder))? };
+    let mut texts = 0;
+    for (place, family) in families::all(count, &corpus).iter().enumerate() {
+        let asked = Asked { family, place: place as u64, seed, program };
+        let difference = asked.all()?;
+        let differences = u8::from(difference.is_some());
+        writeln!(out, "{:<24} {:>10} texts, {differences} differences", family.name, family.count)?;
+        out.flush()?;
+        if let Some((index, told)) = difference {
+            writeln!(out, "the first: text {index} of '{}', seed {seed}\n{told}", family.name)?;
+            return Ok(false);
+        }
+        texts += family.count;
+    }
+    writeln!(out, "{:<24} {texts:>10} texts, 0 differences", "total")?;
+    Ok(true)
+}
+
+struct Asked<'a> {
+    family: &'a Family<'a>,
+    place: u64,
+    seed: u64,
+    program: &'a [String],
+}
+
+/// A text that was answered otherwise: its number, its record and the two answers.
+type Difference = (u64, String);
+
+impl Asked<'_> {
+    /// Asks for the whole family, a piece on each processor at a time, and gives the first difference.
+    fn all(&self) -> io::Result<Option<Difference>> {
+        let next = AtomicU64::new(0);
+        let found = Mutex::new(Vec::new());
+        thread::scope(|scope| {
+            let workers: Vec<_> = (0..thread::available_parallelism()?.get())
+                .map(|_| scope.spawn(|| self.pieces(&next, &found)))
+                .collect();
+            workers.into_iter().try_for_each(|worker| worker.join().expect("a worker panicked"))
+        })?;
+        Ok(found.into_inner().expect("no worker panicked").into_iter().min())
+    }
+
+    /// Piece after piece, until none is left or a difference is found.
+    fn pieces(&self, next: &AtomicU64, found: &Mutex<Vec<Difference>>) -> io::Result<()> {
+        loop {
+            let from = next.fetch_add(PIECE, Ordering::Relaxed);
+            if from >= self.family.count {
+                return Ok(());
+            }
+            if let Some(difference) = self.piece(from, self.family.count.min(from + PIECE))? {
+                next.store(self.family.count, Ordering::Relaxed);
+                found.lock().expect("no worker panicked").push(difference);
+            }
+        }
+    }
+
+    fn piece(&self, from: u64, to: u64) -> io::Result<Option<Difference>> {
+        let (mut records, mut expected, mut text) = (Vec::new(), Vec::new(), Vec::new());
+        let mut ends = vec![(0, 0)];
+        for index in from..to {
+            text.clear();
+            let offset = (self.family.make)(index, &mut Random::new(self.seed, self.place, index), &mut text);
+            for number in [offset, text.len()] {
+                records.extend((number as u32).to_le_bytes());
+            }
+            records.extend(&text);
+            print_walk(&mut expected, offset, &text)?;
+            ends.push((records.len(), expected.len()));
+        }
+        let answers = ask(self.program, &records)?;
+        Ok(first_difference(&expected, &answers).map(|place| {
+            let index = ends.partition_point(|&(_, end)| end <= place).min(ends.len() - 1) - 1;
+            let ((record, start), (record_end, end)) = (ends[index], ends[index + 1]);
+            let told = tell(&records[record..record_end], &expected[start..end], &answers[start.min(answers.len())..]);
+            (from + index as u64, told)
+        }))
+    }
+}
+
+/// What the program writes when it is given the records.
+fn ask(program: &[String], records: &[u8]) -> io::Result<Vec<u8>> {
+    let (name, args) = program.split_first().ok_or_else(|| Error::other("no program is named"))?;
+    let mut child = Command::new(name).args(args).stdin(Stdio::piped()).stdout(Stdio::piped()).spawn()?;
+    let (mut stdin, mut stdout) = (child.stdin.take().expect("piped"), child.stdout.take().expect("piped"));
+    let mut answers = Vec::new();
+    thread::scope(|scope| {
+        // A program that stops early leaves a broken pipe; its answers show it.
+        scope.spawn(move || stdin.write_all(records));
+        stdout.read_to_end(&mut answers)
+    })?;
+    let status = child.wait()?;
+    if !status.success() {
+        eprintln!("the program ended with {status}");
+    }
+    Ok(answers)
+}
+
+/// The first place at which two rows of bytes part.
+fn first_difference(a: &[u8], b: &[u8]) -> Option<usize> {
+    (a != b).then(|| a.iter().zip(b).take_while(|(x, y)| x == y).count())
+}
+
+/// The record in hexadecimal and both answers; the program's up to its empty line.
+fn tell(record: &[u8], expected: &[u8], answers: &[u8]) -> String {
+    let end = answers.windows(2).position(|two| two == b"\n\n").unwrap_or(answers.len());
+    let hex: String = record.iter().map(|byte| format!("{byte:02x}")).collect();
+    let [expected, answer] = [expected, &answers[..end]].map(|row| String::from_utf8_lossy(row).trim_end().to_string());
+    format!("offset, length and text: {hex}\n-- the published lexer:\n{expected}\n-- the program:\n{answer}")
+}

@@ -1,0 +1,47 @@
+//! Small alphabets, of which every text is tried up to a length.
+
+pub const ALPHABETS: &[(&str, &[u8])] = &[
+    ("numbers", b"01.eE+_a"),
+    ("hexadecimal", b"0xX1f_g."),
+    ("quotes", b"'\"`a "),
+    ("blobs", b"xX'0fg"),
+    ("parameters", b"$@:a() 1"),
+    ("colons", b":a>"),
+    ("comments", b"/*-\na>"),
+    ("operators", b"<>=!|&-@"),
+    ("blanks", b" \t\n\x0b\x0c\ra"),
+    ("names", b"aA_$1\x80#?"),
+    ("strays", b"\x00\\ a;'"),
+    ("mixed", b"1.e_':a$x(/* -"),
+];
+
+/// Every byte there is.
+pub fn all_bytes() -> Vec<u8> {
+    (0..=255).collect()
+}
+
+/// The greatest length to which the texts over an alphabet of k bytes are at most `most`, and how many they are.
+pub fn reach(k: u64, most: u64) -> (u32, u64) {
+    let (mut length, mut count, mut next) = (0, 1, k);
+    while count + next <= most {
+        count += next;
+        next *= k;
+        length += 1;
+    }
+    (length, count)
+}
+
+/// The text with this number, shortest first.
+pub fn text(alphabet: &[u8], number: u64, text: &mut Vec<u8>) {
+    let k = alphabet.len() as u64;
+    let (mut rest, mut of_length, mut length) = (number, 1, 0);
+    while rest >= of_length {
+        rest -= of_length;
+        of_length *= k;
+        length += 1;
+    }
+    for _ in 0..length {
+        text.push(alphabet[(rest % k) as usize]);
+        rest /= k;
+    }
+}
