@@ -10,3 +10,4 @@ pub mod DigitLaws
 pub mod NumberLaws
 pub mod NextLaws
 pub mod Moves
+pub mod Theorems

@@ -15,19 +15,19 @@ pub struct Cursor {
     pub at: usize,
 }
 
-pub enum Peek {
+pub(crate) enum Peek {
     Byte(u8),
     Nothing,
 }
 
 // Found: behind the byte. Missed: at the end.
-pub enum Past {
+pub(crate) enum Past {
     Found(Cursor),
     Missed(Cursor),
 }
 
 impl Cursor {
-    pub fn peek(self, text: &[u8]) -> Peek
+    pub(crate) fn peek(self, text: &[u8]) -> Peek
         ensures { λ r. ⌜ r ≡ head (drop (self .at) (now (text .entry))) ⌝ }
     {
         let at = self.at;
@@ -38,7 +38,7 @@ impl Cursor {
     }
 
     // Over a byte, if there is one.
-    pub fn eat(self, text: &[u8]) -> Cursor
+    pub(crate) fn eat(self, text: &[u8]) -> Cursor
         ensures { λ r. ⌜ r .at ≡ moved (self .at) (now (text .entry)) ⌝ }
     {
         let at = self.at;
@@ -48,7 +48,7 @@ impl Cursor {
         self
     }
 
-    pub fn sees(self, text: &[u8], b: u8) -> bool
+    pub(crate) fn sees(self, text: &[u8], b: u8) -> bool
         ensures { λ r. ⌜ r ≡ sees (byte b) (drop (self .at) (now (text .entry))) ⌝ }
     {
         let Peek::Byte(x) = self.peek(text) else {
@@ -57,7 +57,7 @@ impl Cursor {
         x == b
     }
 
-    pub fn sees_either(self, text: &[u8], a: u8, b: u8) -> bool
+    pub(crate) fn sees_either(self, text: &[u8], a: u8, b: u8) -> bool
         ensures { λ r. ⌜ r ≡ sees (byte a or byte b) (drop (self .at) (now (text .entry))) ⌝ }
     {
         let Peek::Byte(x) = self.peek(text) else {
@@ -69,7 +69,7 @@ impl Cursor {
         x == b
     }
 
-    pub fn sees_digit(self, text: &[u8]) -> bool
+    pub(crate) fn sees_digit(self, text: &[u8]) -> bool
         ensures { λ r. ⌜ r ≡ sees D (drop (self .at) (now (text .entry))) ⌝ }
     {
         let Peek::Byte(x) = self.peek(text) else {
@@ -78,7 +78,7 @@ impl Cursor {
         is_digit(x)
     }
 
-    pub fn sees_hexdigit(self, text: &[u8]) -> bool
+    pub(crate) fn sees_hexdigit(self, text: &[u8]) -> bool
         ensures { λ r. ⌜ r ≡ sees hexdigit (drop (self .at) (now (text .entry))) ⌝ }
     {
         let Peek::Byte(x) = self.peek(text) else {
@@ -87,7 +87,7 @@ impl Cursor {
         is_hexdigit(x)
     }
 
-    pub fn sees_start(self, text: &[u8]) -> bool
+    pub(crate) fn sees_start(self, text: &[u8]) -> bool
         ensures { λ r. ⌜ r ≡ sees S (drop (self .at) (now (text .entry))) ⌝ }
     {
         let Peek::Byte(x) = self.peek(text) else {
@@ -96,7 +96,7 @@ impl Cursor {
         is_identifier_start(x)
     }
 
-    pub fn sees_continue(self, text: &[u8]) -> bool
+    pub(crate) fn sees_continue(self, text: &[u8]) -> bool
         ensures { λ r. ⌜ r ≡ sees C (drop (self .at) (now (text .entry))) ⌝ }
     {
         let Peek::Byte(x) = self.peek(text) else {
@@ -105,7 +105,7 @@ impl Cursor {
         is_identifier_continue(x)
     }
 
-    pub fn sees_pair(self, text: &[u8]) -> bool
+    pub(crate) fn sees_pair(self, text: &[u8]) -> bool
         ensures { λ r. ⌜ r ≡ seesPair (drop (self .at) (now (text .entry))) ⌝ }
     {
         if self.sees(text, b':') {
@@ -115,7 +115,7 @@ impl Cursor {
     }
 
     // Over a byte that is one of two.
-    pub fn eat_either(self, text: &[u8], a: u8, b: u8) -> Cursor
+    pub(crate) fn eat_either(self, text: &[u8], a: u8, b: u8) -> Cursor
         ensures { λ r. ⌜ r .at ≡ optional (byte a or byte b) (self .at) (now (text .entry)) ⌝ }
     {
         if self.sees_either(text, a, b) {
@@ -125,7 +125,7 @@ impl Cursor {
     }
 
     // Up to the byte, or to the end.
-    pub fn eat_until(self, text: &[u8], b: u8) -> Cursor
+    pub(crate) fn eat_until(self, text: &[u8], b: u8) -> Cursor
         ensures { λ r. ⌜ r .at ≡ over (no (byte b)) (self .at) (now (text .entry)) ⌝ }
     {
         let mut at = self.at;
@@ -138,7 +138,7 @@ impl Cursor {
         Cursor { at }
     }
 
-    pub fn eat_past(self, text: &[u8], b: u8) -> Past
+    pub(crate) fn eat_past(self, text: &[u8], b: u8) -> Past
         ensures { λ r. ⌜ r ≡ past b (self .at) (now (text .entry)) ⌝ }
     {
         let stop = self.eat_until(text, b);
@@ -148,7 +148,7 @@ impl Cursor {
         Past::Missed(stop)
     }
 
-    pub fn eat_while_blank(self, text: &[u8]) -> Cursor
+    pub(crate) fn eat_while_blank(self, text: &[u8]) -> Cursor
         ensures { λ r. ⌜ r .at ≡ over blank (self .at) (now (text .entry)) ⌝ }
     {
         let mut at = self.at;
@@ -161,7 +161,7 @@ impl Cursor {
         Cursor { at }
     }
 
-    pub fn eat_while_digit(self, text: &[u8]) -> Cursor
+    pub(crate) fn eat_while_digit(self, text: &[u8]) -> Cursor
         ensures { λ r. ⌜ r .at ≡ over D (self .at) (now (text .entry)) ⌝ }
     {
         let mut at = self.at;
@@ -174,7 +174,7 @@ impl Cursor {
         Cursor { at }
     }
 
-    pub fn eat_while_hexdigit(self, text: &[u8]) -> Cursor
+    pub(crate) fn eat_while_hexdigit(self, text: &[u8]) -> Cursor
         ensures { λ r. ⌜ r .at ≡ over hexdigit (self .at) (now (text .entry)) ⌝ }
     {
         let mut at = self.at;
@@ -187,7 +187,7 @@ impl Cursor {
         Cursor { at }
     }
 
-    pub fn eat_while_continue(self, text: &[u8]) -> Cursor
+    pub(crate) fn eat_while_continue(self, text: &[u8]) -> Cursor
         ensures { λ r. ⌜ r .at ≡ over C (self .at) (now (text .entry)) ⌝ }
     {
         let mut at = self.at;
@@ -200,7 +200,7 @@ impl Cursor {
         Cursor { at }
     }
 
-    pub fn eat_while_not_blank(self, text: &[u8]) -> Cursor
+    pub(crate) fn eat_while_not_blank(self, text: &[u8]) -> Cursor
         ensures { λ r. ⌜ r .at ≡ over (no blank) (self .at) (now (text .entry)) ⌝ }
     {
         let mut at = self.at;
@@ -214,7 +214,7 @@ impl Cursor {
     }
 
     // The bytes that `(` may hold behind a parameter's name.
-    pub fn eat_while_suffix(self, text: &[u8]) -> Cursor
+    pub(crate) fn eat_while_suffix(self, text: &[u8]) -> Cursor
         ensures { λ r. ⌜ r .at ≡ over (no (byte 41 or blank)) (self .at) (now (text .entry)) ⌝ }
     {
         let mut at = self.at;
