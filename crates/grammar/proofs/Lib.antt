@@ -12,5 +12,7 @@ pub mod Theorems
 pub mod Unrecognized
 pub mod Equal
 pub mod TextLaws
+pub mod Seen
 pub mod Walk
+pub mod Reading
 pub mod PageLaws

@@ -1,16 +1,15 @@
 -- From the end of a lexeme to the answer. Assumes nothing.
-use Prim.Native.Nat.{ℕ, _+_, _-_, _≤_}
-use Prim.Native.String.{String}
+use Prim.Native.Nat.{ℕ, _+_, _-_}
 use native.Mathlib.Omega.{arith}
-use mathlib.Core.Path.{_≡_, refl, sym, _∙_, ap, subst}
+use mathlib.Core.Path.{_≡_, sym, _∙_, ap, subst}
 use mathlib.Core.List.{List}
 use lib.ListN.{length}
 use Rattle.grammar.specs.Classes.{rules}
-use Rattle.grammar.specs.Answers.{Answer, token, refusal, answer, legal, refused}
+use Rattle.grammar.specs.Answers.{Answer, token, refusal, answer, legal}
 use Rattle.grammar.specs.Longest.{Gives}
 use Rattle.grammar.specs.Runs.{part}
 use Rattle.grammar.proofs.States.{ruleAt}
-use Rattle.grammar.proofs.Walk.{Ends, ends-gives, ends-long}
+use Rattle.grammar.proofs.Reading.{Ends, ends-gives, ends-long}
 use Rattle.lexer.specs.declared.lexed.Refusal.{Refusal}
 use Rattle.lexer.specs.declared.lexed.Lexed.{Lexed}
 use Rattle.lexer.specs.declared.lexed.Lexed.the-variants.{Token, Refused}

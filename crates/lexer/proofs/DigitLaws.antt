@@ -1,18 +1,18 @@
 -- A run of digits read by states: from one that digits lead back to, over one behind `_`. Assumes nothing.
 use Prim.Native.Nat.{ℕ, _+_, _-_, _≤_, _<_}
-use native.Mathlib.Numerals.{add-one}
 use native.Mathlib.Omega.{arith}
 use mathlib.Core.Path.{_≡_, refl, sym, _∙_, ap, subst}
-use mathlib.Core.Bool.{Bool, true, false, not, cond, _&&_, true≢false}
-use mathlib.Core.List.{List, [], _∷_, head-eq-of-cons-eq, tail-eq-of-cons-eq}
-use lib.ListN.{length, getD, drop}
+use mathlib.Core.Bool.{true, false, _&&_}
+use mathlib.Core.List.{List, [], _∷_}
+use lib.ListN.{length, drop}
 use lib.Seq.{drop-drop}
 use Rattle.keywords.proofs.Logic.{split}
 use Rattle.grammar.specs.Form.{Set, no, holds}
-use Rattle.grammar.specs.Runs.{char, sees, moved, part}
+use Rattle.grammar.specs.Runs.{char, sees}
 use Rattle.grammar.proofs.States.{State, met}
-use Rattle.grammar.proofs.Walk.{Reads, Ends, goes, meets, inside, moved-one, seen-in, reads-eat, reads-joined, reads-stop}
-use Rattle.lexer.specs.declared.cursor.Cursor.{Cursor}
+use Rattle.grammar.proofs.Seen.{inside, moved-one, seen-in}
+use Rattle.grammar.proofs.Walk.{goes, meets}
+use Rattle.grammar.proofs.Reading.{Reads, Ends, reads-eat, reads-joined, reads-stop}
 use Rattle.lexer.specs.declared.digits.Digits.{Digits}
 use Rattle.lexer.specs.declared.digits.Digits.the-variants.{Read, Bad}
 use Rattle.lexer.specs.Eaten.{cursor, groups}

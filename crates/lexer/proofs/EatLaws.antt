@@ -1,18 +1,17 @@
 -- The eaters' laws, over plain texts and places. Assumes nothing.
-use Prim.Native.Nat.{ℕ, zero, suc, _+_, _≤_, _<_}
+use Prim.Native.Nat.{ℕ, _+_, _≤_, _<_}
 use native.Mathlib.Nat.{add-zero}
 use native.Mathlib.Numerals.{add-one}
 use native.Mathlib.Omega.{arith}
 use mathlib.Core.Path.{_≡_, refl, sym, _∙_, ap}
-use mathlib.Core.Bool.{Bool, true, false, not, _||_, true≢false}
+use mathlib.Core.Bool.{Bool, true, false, true≢false}
 use mathlib.Core.List.{List, [], _∷_}
-use lib.Dec.{eqb}
 use lib.ListN.{length, getD, drop, drop-of-length-le}
 use lib.Seq.{drop-cons, drop-drop}
 use Rattle.keywords.proofs.Logic.{split, and-left}
 use Rattle.grammar.specs.Form.{Set, byte, no, _or_, holds}
 use Rattle.grammar.specs.Runs.{char, seesPair, sees, run, moved, optional, over}
-use Rattle.grammar.proofs.Walk.{moved-one, optional-one, optional-none, over-on, moved-up, seen-in}
+use Rattle.grammar.proofs.Seen.{moved-one, optional-one, over-on, moved-up, seen-in}
 use Rattle.lexer.specs.declared.cursor.Peek.the-variants.{Byte, Nothing}
 use Rattle.lexer.specs.declared.cursor.Past.{Past}
 use Rattle.lexer.specs.declared.cursor.Past.the-variants.{Found, Missed}

@@ -1,20 +1,19 @@
 -- Runs of digits in groups, over plain texts and places. Assumes nothing.
-use Prim.Native.Nat.{ℕ, zero, suc, _+_, _≤_, _<_}
+use Prim.Native.Nat.{ℕ, _+_}
 use native.Mathlib.Nat.{add-zero}
-use native.Mathlib.Numerals.{add-one}
 use native.Mathlib.Omega.{arith}
 use mathlib.Core.Path.{_≡_, refl, sym, _∙_, ap}
-use mathlib.Core.Bool.{Bool, true, false, not, _||_, true≢false}
+use mathlib.Core.Bool.{true, false, true≢false}
 use mathlib.Core.List.{List, [], _∷_}
 use lib.Dec.{eqb}
-use lib.ListN.{length, getD, drop}
+use lib.ListN.{drop}
 use lib.Seq.{drop-drop}
 use borrow.Author.Tests.{eqb-true, eqb-false}
 use Rattle.keywords.proofs.Logic.{split}
 use Rattle.words.specs.Bytes.{isHexdigit, isDigit}
 use Rattle.grammar.specs.Form.{Set, H, no, holds}
 use Rattle.grammar.specs.Runs.{char, sees, run, over}
-use Rattle.grammar.proofs.Walk.{moved-one, over-stops, inside-misses, sees-no}
+use Rattle.grammar.proofs.Seen.{over-stops, inside-misses, sees-no}
 use Rattle.lexer.specs.declared.digits.Digits.{Digits}
 use Rattle.lexer.specs.declared.digits.Digits.the-variants.{Read, Bad}
 use Rattle.lexer.specs.Eaten.{cursor, groups, hexGroups}

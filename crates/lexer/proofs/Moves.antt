@@ -10,8 +10,8 @@ use Rattle.grammar.specs.Classes.{Class, rules, blankRun, lineComment, blockCom
 use Rattle.grammar.specs.Classes.{float, blob, parameter, word, illegal, unrecognized, bang, openQuote, openBlob, oddBlob}
 use Rattle.grammar.specs.Classes.{badParameter, underscore, wordAfterInteger, wordAfterFraction, noExponent, wordAfterExponent}
 use Rattle.grammar.specs.Classes.{noHexdigit, underscoreAfterX, hexUnderscore, wordAfterHex}
-use Rattle.grammar.specs.Answers.{Answer, token, answer}
-use Rattle.grammar.specs.Longest.{Longest, Gives}
+use Rattle.grammar.specs.Answers.{token, answer}
+use Rattle.grammar.specs.Longest.{Gives}
 use Rattle.grammar.proofs.Lexemes as Lexemes
 use Rattle.grammar.proofs.Theorems.{sound}
 use Rattle.lexer.specs.declared.cursor.Cursor.{Cursor}

@@ -1,19 +1,20 @@
 -- Words, `#` and what starts nothing. Assumes nothing.
-use Prim.Native.Nat.{ℕ, _+_, _-_, _≤_}
+use Prim.Native.Nat.{ℕ, _+_, _-_}
 use native.Mathlib.Omega.{arith}
-use mathlib.Core.Path.{_≡_, refl, sym, _∙_, ap, subst}
-use mathlib.Core.Bool.{true, false, _&&_}
-use mathlib.Core.List.{List, []}
-use lib.ListN.{length, getD, drop}
+use mathlib.Core.Path.{_≡_, refl, _∙_, ap}
+use mathlib.Core.Bool.{true, false}
+use mathlib.Core.List.{List}
+use lib.ListN.{length, drop}
 use Rattle.keywords.specs.Text.{bytes}
 use Rattle.words.specs.Bytes.{isDigit, isHexdigit, isIdentifierStart, isIdentifierContinue, isBlank}
 use Rattle.words.specs.Word.{kindOf}
-use Rattle.grammar.specs.Form.{Set, S, C, blank, byte, no, _or_, _except_}
+use Rattle.grammar.specs.Form.{S, C, blank, no, _or_, _except_}
 use Rattle.grammar.specs.Classes.{operators, rules, U}
 use Rattle.grammar.specs.Answers.{refusal, answer}
 use Rattle.grammar.specs.Runs.{char, sees, part, moved, over}
-use Rattle.grammar.proofs.Walk.{Reads, Ends, Spelled, behind, begin, spelled-reads, inside-sees, inside-misses, over-stops, moved-one, seen-in, seen-holds, ends-long, except-sees}
-use Rattle.grammar.proofs.Walk.{reads-eat, reads-while, reads-join, reads-stop}
+use Rattle.grammar.proofs.Seen.{inside-sees, inside-misses, over-stops, moved-one, seen-in, seen-holds, except-sees}
+use Rattle.grammar.proofs.Reading.{Reads, Ends, Spelled, behind, begin, spelled-reads, ends-long, reads-eat, reads-while}
+use Rattle.grammar.proofs.Reading.{reads-join, reads-stop}
 use Rattle.lexer.specs.declared.lexed.Refusal.the-variants.{UnrecognizedToken}
 use Rattle.lexer.specs.declared.lexed.Lexed.{Lexed}
 use Rattle.lexer.specs.declared.lexed.Lexed.the-variants.{Token, Refused}

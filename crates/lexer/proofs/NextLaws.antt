@@ -1,22 +1,23 @@
 -- The dispatch: by the first byte. Assumes nothing.
-use Prim.Native.Nat.{ℕ, suc, _+_, _-_, _≤_, _<_}
+use Prim.Native.Nat.{ℕ, _+_, _-_, _≤_, _<_}
 use native.Mathlib.Omega.{arith}
-use mathlib.Core.Path.{_≡_, refl, sym, _∙_, ap, subst}
-use mathlib.Core.Bool.{Bool, true, false, not, _||_, true≢false}
+use mathlib.Core.Path.{_≡_, refl, sym, _∙_, ap}
+use mathlib.Core.Bool.{Bool, true, false, true≢false}
 use mathlib.Core.List.{List, [], _∷_}
 use mathlib.Core.Logic.{inl, inr}
-use lib.Dec.{eqb, ltb}
-use lib.ListN.{length, getD, drop}
+use lib.Dec.{ltb}
+use lib.ListN.{length, drop}
 use lib.Seq.{drop-cons}
 use borrow.Author.Tests.{eqb-true, eq-eqb, ne-eqb, ltb-true, ltb-false}
 use Rattle.keywords.specs.Text.{bytes}
 use Rattle.keywords.specs.Words.{kindIn}
 use Rattle.keywords.proofs.Logic.{split}
-use Rattle.words.specs.Bytes.{isDigit, isHexdigit, isIdentifierStart, isIdentifierContinue, isBlank}
+use Rattle.words.specs.Bytes.{isDigit, isIdentifierStart, isBlank}
 use Rattle.grammar.specs.Form.{Set, none, D, S, blank, byte, no, _or_, holds}
-use Rattle.grammar.specs.Classes.{operators, rules, U}
-use Rattle.grammar.specs.Runs.{sees, moved}
-use Rattle.grammar.proofs.Walk.{inside, inside-holds, misses-none, moved-one, spelled-first}
+use Rattle.grammar.specs.Classes.{operators, U}
+use Rattle.grammar.specs.Runs.{sees}
+use Rattle.grammar.proofs.Seen.{inside-holds, misses-none, moved-one}
+use Rattle.grammar.proofs.Reading.{spelled-first}
 use Rattle.lexer.specs.declared.cursor.Peek.the-variants.{Byte, Nothing}
 use Rattle.lexer.specs.declared.lexed.Refusal.the-variants.{OffsetPastEnd}
 use Rattle.lexer.specs.declared.lexed.Lexed.{Lexed}

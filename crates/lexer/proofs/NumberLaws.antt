@@ -1,19 +1,20 @@
 -- Numbers. Assumes nothing.
 use Prim.Native.Nat.{ℕ, _+_, _-_, _≤_, _<_, max}
 use native.Mathlib.Omega.{arith}
-use mathlib.Core.Path.{_≡_, refl, sym, _∙_, ap, subst}
-use mathlib.Core.Bool.{Bool, true, false, not, cond, _&&_, true≢false}
-use mathlib.Core.List.{List, [], _∷_}
+use mathlib.Core.Path.{_≡_, refl, sym, _∙_, ap}
+use mathlib.Core.Bool.{Bool, true, false, true≢false}
+use mathlib.Core.List.{List}
 use lib.ListN.{length, drop}
 use Rattle.keywords.proofs.Logic.{split}
 use Rattle.words.specs.Bytes.{isDigit, isHexdigit, isIdentifierStart, isIdentifierContinue, isBlank}
-use Rattle.grammar.specs.Form.{Set, none, D, H, S, C, any, byte, no, _or_, _except_, oneOf, holds}
+use Rattle.grammar.specs.Form.{Set, none, D, H, S, any, no, _or_, _except_, oneOf}
 use Rattle.grammar.specs.Classes.{operators, rules}
-use Rattle.grammar.specs.Answers.{Answer, refusal, first, afterLast, init, answer}
+use Rattle.grammar.specs.Answers.{refusal, first, afterLast, init, answer}
 use Rattle.grammar.specs.Runs.{char, sees, part, moved, optional}
 use Rattle.grammar.proofs.States.{ruleAt}
-use Rattle.grammar.proofs.Walk.{Reads, Ends, behind, begin, ends-long, ends-in, misses-none, misses-or, or-left, or-right, or-other, inside-misses, inside-sees, except-sees, moved-one, seen-in, optional-one, optional-none}
-use Rattle.grammar.proofs.Walk.{reads-eat, reads-join, reads-joined, reads-stop}
+use Rattle.grammar.proofs.Seen.{misses-none, misses-or, or-left, or-right, or-other, inside-misses, inside-sees, except-sees}
+use Rattle.grammar.proofs.Seen.{moved-one, seen-in, optional-one, optional-none}
+use Rattle.grammar.proofs.Reading.{Reads, Ends, behind, begin, ends-long, ends-in, reads-eat, reads-join, reads-joined, reads-stop}
 use Rattle.lexer.specs.declared.lexed.Refusal.{Refusal}
 use Rattle.lexer.specs.declared.lexed.Refusal.the-variants.{BadNumber, BadFractionalPart, BadExponentPart, MalformedHexInteger}
 use Rattle.lexer.specs.declared.lexed.Lexed.{Lexed}

@@ -1,10 +1,8 @@
 -- Blank runs, comments and operators. Assumes nothing.
-use Prim.Native.Nat.{ℕ, suc, _+_, _-_, _≤_}
-use Prim.Native.String.{String}
-use native.Mathlib.Omega.{arith}
-use mathlib.Core.Path.{_≡_, refl, sym, _∙_, ap, subst}
+use Prim.Native.Nat.{ℕ, _-_}
+use mathlib.Core.Path.{_≡_, refl, sym, _∙_}
 use mathlib.Core.Bool.{Bool, true, false, cond, _&&_, _||_, true≢false}
-use mathlib.Core.List.{List, [], _∷_, _++_}
+use mathlib.Core.List.{List, [], _∷_}
 use mathlib.Core.Logic.{_⊎_, inl, inr}
 use lib.Dec.{eqb}
 use lib.ListN.{drop}
@@ -14,14 +12,15 @@ use Rattle.keywords.specs.Words.{Entry, same, kindIn}
 use Rattle.keywords.proofs.SameLaws.{same-true}
 use Rattle.keywords.proofs.Logic.{split, and-left, and-right, every}
 use Rattle.words.specs.Bytes.{isDigit, isHexdigit, isIdentifierStart, isIdentifierContinue, isBlank}
-use Rattle.grammar.specs.Form.{Set, none, D, blank, byte, no, _or_, oneOf}
+use Rattle.grammar.specs.Form.{Set, none, D, blank, no, _or_}
 use Rattle.grammar.specs.Classes.{operators, rules}
 use Rattle.grammar.specs.Answers.{answer}
-use Rattle.grammar.specs.Longest.{Some}
 use Rattle.grammar.specs.Runs.{char, sees, moved, over}
 use Rattle.grammar.proofs.States.{start, after, met}
-use Rattle.grammar.proofs.Walk.{Reads, Ends, Spelled, behind, goes, along, begin, reads-eat, reads-while, reads-join, reads-stop, moved-one, moved-end, over-stops, at-end}
-use Rattle.grammar.proofs.Walk.{spelled-reads, spelled-part, reads-end, misses-none, inside-misses}
+use Rattle.grammar.proofs.Seen.{moved-end, over-stops, at-end, misses-none, inside-misses}
+use Rattle.grammar.proofs.Walk.{goes, along}
+use Rattle.grammar.proofs.Reading.{Reads, Ends, Spelled, behind, begin, reads-eat, reads-while, reads-join, reads-stop}
+use Rattle.grammar.proofs.Reading.{spelled-reads, spelled-part, reads-end}
 use Rattle.lexer.specs.declared.lexed.Lexed.{Lexed}
 use Rattle.lexer.specs.declared.lexed.Lexed.the-variants.{Token, Refused}
 use Rattle.lexer.specs.declared.lexed.Refusal.the-variants.{ExpectedEqualsSign}

@@ -1,8 +1,8 @@
 -- Parameters, and the colon. Assumes nothing.
 use Prim.Native.Nat.{ℕ, _-_}
-use mathlib.Core.Path.{_≡_, refl, sym, _∙_}
-use mathlib.Core.Bool.{true, false, _&&_}
-use mathlib.Core.List.{List, []}
+use mathlib.Core.Path.{_≡_, refl}
+use mathlib.Core.Bool.{true, false}
+use mathlib.Core.List.{List}
 use lib.ListN.{drop}
 use Rattle.keywords.specs.Text.{bytes}
 use Rattle.words.specs.Bytes.{isDigit, isHexdigit, isIdentifierStart, isIdentifierContinue, isBlank}
@@ -10,8 +10,9 @@ use Rattle.grammar.specs.Form.{none, D, S, C, blank, byte, no, _or_}
 use Rattle.grammar.specs.Classes.{operators, rules}
 use Rattle.grammar.specs.Answers.{answer}
 use Rattle.grammar.specs.Runs.{char, sees, seesPair, moved, over}
-use Rattle.grammar.proofs.Walk.{Reads, Ends, Spelled, behind, spelled-reads, spelled-part, inside-misses, misses-none, misses-or, over-stops}
-use Rattle.grammar.proofs.Walk.{reads-eat, reads-while, reads-join, reads-joined, reads-joined-pair, reads-pair, reads-no-pair, reads-stop}
+use Rattle.grammar.proofs.Seen.{inside-misses, misses-none, misses-or, over-stops}
+use Rattle.grammar.proofs.Reading.{Reads, Ends, Spelled, behind, spelled-reads, spelled-part, reads-eat, reads-while, reads-join}
+use Rattle.grammar.proofs.Reading.{reads-joined, reads-joined-pair, reads-pair, reads-no-pair, reads-stop}
 use Rattle.lexer.specs.declared.lexed.Refusal.the-variants.{UnrecognizedToken}
 use Rattle.lexer.specs.declared.lexed.Lexed.{Lexed}
 use Rattle.lexer.specs.declared.lexed.Lexed.the-variants.{Token, Refused}

@@ -1,12 +1,10 @@
 -- Strings, quoted names and blobs. Assumes nothing.
-use Prim.Native.Nat.{ℕ, zero, suc, _+_, _-_, _%_, _≤_}
-use native.Mathlib.Omega.{arith}
-use mathlib.Core.Path.{_≡_, refl, sym, _∙_, ap, subst}
-use mathlib.Core.Bool.{Bool, true, false, cond, _&&_, true≢false}
+use Prim.Native.Nat.{ℕ, _-_, _%_}
+use mathlib.Core.Path.{_≡_, refl, sym, subst}
+use mathlib.Core.Bool.{true, false, cond, _&&_, true≢false}
 use mathlib.Core.List.{List, [], _∷_}
 use lib.Dec.{eqb}
 use lib.ListN.{drop}
-use lib.Seq.{drop-drop}
 use borrow.Author.Tests.{eqb-true, eqb-false}
 use Rattle.keywords.proofs.Logic.{split}
 use Rattle.words.specs.Bytes.{isDigit, isHexdigit, isIdentifierStart, isIdentifierContinue, isBlank}
@@ -15,8 +13,10 @@ use Rattle.grammar.specs.Classes.{operators, rules}
 use Rattle.grammar.specs.Answers.{answer}
 use Rattle.grammar.specs.Runs.{char, sees, run, moved, over}
 use Rattle.grammar.proofs.States.{State, start, after, met}
-use Rattle.grammar.proofs.Walk.{Reads, Ends, Spelled, behind, goes, meets, along, spelled-first, spelled-reads, misses-none, at-end, over-stops, sees-no}
-use Rattle.grammar.proofs.Walk.{alternate, alternate-even, alternate-odd, reads-alternate, misses-or, misses-any, reads-eat, reads-while, reads-join, reads-stop, reads-end}
+use Rattle.grammar.proofs.Seen.{misses-none, at-end, over-stops, misses-or, misses-any}
+use Rattle.grammar.proofs.Walk.{goes, meets, along, alternate, alternate-even, alternate-odd}
+use Rattle.grammar.proofs.Reading.{Reads, Ends, behind, spelled-first, spelled-reads, reads-alternate, reads-eat}
+use Rattle.grammar.proofs.Reading.{reads-while, reads-join, reads-stop, reads-end}
 use Rattle.lexer.specs.declared.lexed.Refusal.the-variants.{UnrecognizedToken, UnterminatedLiteral}
 use Rattle.lexer.specs.declared.lexed.Lexed.{Lexed}
 use Rattle.lexer.specs.declared.lexed.Lexed.the-variants.{Token, Refused}

@@ -1,20 +1,17 @@
 -- Where spans begin: the first byte of a set in a lexeme, and the last group of digits. Assumes nothing.
-use Prim.Native.Nat.{ℕ, zero, suc, _+_, _-_, _≤_, _<_, max}
-use native.Mathlib.Nat.{add-zero}
-use native.Mathlib.Numerals.{add-one}
+use Prim.Native.Nat.{ℕ, suc, _+_, _-_, _≤_, _<_}
 use native.Mathlib.Omega.{arith}
-use mathlib.Core.Path.{_≡_, refl, sym, _∙_, ap, subst}
-use mathlib.Core.Bool.{Bool, true, false, not, cond, _&&_, _||_, true≢false}
+use mathlib.Core.Path.{_≡_, refl, _∙_, ap}
+use mathlib.Core.Bool.{Bool, true, false, not}
 use mathlib.Core.List.{List, [], _∷_, _++_}
-use lib.Dec.{eqb}
-use lib.ListN.{length, getD, take, drop, length-append, length-drop}
+use lib.ListN.{length, getD, take, drop, length-drop}
 use lib.Seq.{take-suc, take-take, split-at, getD-take, getD-drop, length-take-le}
 use borrow.Author.Tests.{not-true, ne-eqb}
-use Rattle.keywords.proofs.Logic.{split, and-left, and-right, every}
+use Rattle.keywords.proofs.Logic.{and-left, and-right, every}
 use Rattle.grammar.specs.Form.{Set, any, no, holds}
 use Rattle.grammar.specs.Answers.{first, afterLast, init}
 use Rattle.grammar.specs.Runs.{sees, part}
-use Rattle.grammar.proofs.Walk.{inside, inside-holds, seen-in, seen-holds}
+use Rattle.grammar.proofs.Seen.{inside, inside-holds, seen-in, seen-holds}
 use Rattle.lexer.specs.Places.{Only, Group}
 
 -- parts

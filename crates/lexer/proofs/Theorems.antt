@@ -2,7 +2,6 @@
 -- says. `moves` (Moves.antt): a token leads on, inside the text. Assumes nothing.
 use Prim.Native.Nat.{ℕ}
 use mathlib.Core.Path.{_≡_, refl, sym, _∙_, ap}
-use mathlib.Core.Bool.{Bool, true, false, true≢false}
 use mathlib.Core.List.{List, [], _∷_}
 use lib.ListN.{getD}
 use Rattle.grammar.specs.Classes.{rules}
@@ -10,7 +9,6 @@ use Rattle.grammar.specs.Answers.{Answer, token, end, refusal}
 use Rattle.grammar.specs.Texts.{Row, offset, Walks, Every, table}
 use Rattle.grammar.proofs.Unique.{gives-unique}
 use Rattle.grammar.proofs.TextLaws.{texts}
-use Rattle.lexer.specs.declared.cursor.Cursor.{Cursor}
 use Rattle.lexer.specs.declared.lexed.Refusal.{Refusal}
 use Rattle.lexer.specs.declared.lexed.Refusal.the-variants.{UnrecognizedToken, UnterminatedLiteral, BadNumber, BadFractionalPart}
 use Rattle.lexer.specs.declared.lexed.Refusal.the-variants.{BadExponentPart, MalformedHexInteger, ExpectedEqualsSign, OffsetPastEnd}

@@ -2,7 +2,7 @@
 use Prim.Native.Nat.{ℕ, _+_, _-_, _≤_, max}
 use mathlib.Core.Path.{_≡_}
 use mathlib.Core.Bool.{Bool, true, false, cond}
-use mathlib.Core.List.{List, [], _∷_}
+use mathlib.Core.List.{List}
 use lib.ListN.{drop}
 use Rattle.keywords.specs.Kinds.{kind}
 use Rattle.keywords.proofs.Logic.{every}
@@ -11,7 +11,7 @@ use Rattle.grammar.specs.Form.{Set, D, H, S, C, no, _or_, oneOf, holds}
 use Rattle.grammar.specs.Classes.{U}
 use Rattle.grammar.specs.Answers.{afterLast}
 use Rattle.grammar.specs.Runs.{char, sees, seesPair, part, moved}
-use Rattle.grammar.proofs.Walk.{Reads, behind}
+use Rattle.grammar.proofs.Reading.{Reads, behind}
 
 -- a byte of the set stands at the place
 abbrev pub At : Set → ℕ → List ℕ → Type 0

@@ -4,7 +4,6 @@ use mathlib.Core.List.{List}
 use Rattle.grammar.specs.Classes.{rules}
 use Rattle.grammar.specs.Answers.{Answer, token, end, refusal, refusalNumber}
 use Rattle.grammar.specs.Longest.{Gives}
-use Rattle.lexer.specs.declared.cursor.Cursor.{Cursor}
 use Rattle.lexer.specs.declared.lexed.Refusal.{Refusal}
 use Rattle.lexer.specs.declared.lexed.Refusal.the-variants.{UnrecognizedToken, UnterminatedLiteral, BadNumber, BadFractionalPart}
 use Rattle.lexer.specs.declared.lexed.Refusal.the-variants.{BadExponentPart, MalformedHexInteger, ExpectedEqualsSign, OffsetPastEnd}

@@ -10,7 +10,7 @@ use words::lookup::keyword_or_id_token;
 ghost use Rattle.grammar.specs.Form.{S};
 ghost use Rattle.grammar.specs.Classes.{U};
 ghost use Rattle.grammar.specs.Runs.{char};
-ghost use Rattle.grammar.proofs.Walk.{Reads, behind};
+ghost use Rattle.grammar.proofs.Reading.{Reads, behind};
 ghost use Rattle.lexer.specs.Places.{At};
 ghost use Rattle.lexer.specs.Values.{Lexes};
 

@@ -28,7 +28,7 @@ ghost use Prim.Native.Nat.{_+_, _<_};
 ghost use lib.ListN.{length};
 ghost use Rattle.grammar.specs.Form.{blank};
 ghost use Rattle.grammar.specs.Runs.{char};
-ghost use Rattle.grammar.proofs.Walk.{Reads, behind};
+ghost use Rattle.grammar.proofs.Reading.{Reads, behind};
 ghost use Rattle.lexer.specs.Eaten.{cursor};
 ghost use Rattle.lexer.specs.Places.{At};
 ghost use Rattle.lexer.specs.Values.{Lexes};

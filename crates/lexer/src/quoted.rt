@@ -11,7 +11,7 @@ use keywords::kinds::TK_STRING;
 ghost use mathlib.Core.Path.{_≡_};
 ghost use mathlib.Core.Bool.{true};
 ghost use Rattle.grammar.specs.Form.{byte};
-ghost use Rattle.grammar.proofs.Walk.{Reads, behind};
+ghost use Rattle.grammar.proofs.Reading.{Reads, behind};
 ghost use Rattle.lexer.specs.Places.{At, isQuote, quoteKind};
 ghost use Rattle.lexer.specs.Values.{Lexes};
 

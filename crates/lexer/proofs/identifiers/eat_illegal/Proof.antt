@@ -1,7 +1,8 @@
 -- `lexer::identifiers::eat_illegal` meets its contract. Assumes nothing.
 use native.Mathlib.Omega.{arith}
 use borrow.Author.Needs.{needs}
-use Rattle.grammar.proofs.Walk.{moved-up, over-on, spelled-first}
+use Rattle.grammar.proofs.Seen.{moved-up, over-on}
+use Rattle.grammar.proofs.Reading.{spelled-first}
 use Rattle.lexer.proofs.NameLaws.{illegal-lexed}
 use Rattle.lexer.proofs.identifiers.eat_illegal.Statement.{statement}
 use Rattle.lexer.proofs.identifiers.eat_illegal.Tie as tie

@@ -3,7 +3,8 @@ use mathlib.Core.Path.{_∙_, refl, sym}
 use borrow.Author.Needs.{needs}
 use Rattle.grammar.specs.Classes.{operators}
 use Rattle.grammar.specs.Form.{blank, byte}
-use Rattle.grammar.proofs.Walk.{seen-in, spelled-first}
+use Rattle.grammar.proofs.Seen.{seen-in}
+use Rattle.grammar.proofs.Reading.{spelled-first}
 use Rattle.lexer.proofs.EatLaws.{head-sees}
 use Rattle.lexer.proofs.NextLaws.{byte-at, byte-seen, end-lexed, later, past-lexed, single-lexed}
 use Rattle.lexer.proofs.OperatorLaws.{follow, isOperator}

@@ -5,7 +5,6 @@ use borrow.Author.Needs.{needs}
 use Rattle.lexer.proofs.NumberLaws.{decimal-after, decimal-stuck, integer-dot, integer-e, integer-ends, integer-lexed, integer-word-lexed, stuck-lexed}
 use Rattle.lexer.proofs.numbers.eat_decimal.Statement.{statement}
 use Rattle.lexer.proofs.numbers.eat_decimal.Tie as tie
-use Rattle.lexer.proofs.numbers.eat_decimal.Reads as reads
 
 eat-while-number-digit-requires : tie.Need-eat-while-number-digit-requires
 eat-while-number-digit-requires c κs = search needs

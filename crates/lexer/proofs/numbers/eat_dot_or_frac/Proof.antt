@@ -3,7 +3,8 @@ use native.Mathlib.Omega.{arith}
 use mathlib.Core.Path.{_∙_, refl, sym}
 use borrow.Author.Needs.{needs}
 use Rattle.grammar.specs.Classes.{operators}
-use Rattle.grammar.proofs.Walk.{moved-up, spelled-first}
+use Rattle.grammar.proofs.Seen.{moved-up}
+use Rattle.grammar.proofs.Reading.{spelled-first}
 use Rattle.lexer.proofs.NumberLaws.{first-fraction}
 use Rattle.lexer.proofs.OperatorLaws.{follow, isOperator, operator-lexed}
 use Rattle.lexer.proofs.numbers.eat_dot_or_frac.Statement.{statement}

@@ -2,11 +2,10 @@
 use native.Mathlib.Omega.{arith}
 use mathlib.Core.Path.{_∙_, sym}
 use borrow.Author.Needs.{needs}
-use Rattle.grammar.proofs.Walk.{moved-up, optional-up}
+use Rattle.grammar.proofs.Seen.{moved-up, optional-up}
 use Rattle.lexer.proofs.NumberLaws.{exponent-after, exponent-ends, exponent-missing-lexed, exponent-stuck, exponent-word-lexed, float-lexed, stuck-lexed}
 use Rattle.lexer.proofs.numbers.eat_expo.Statement.{statement}
 use Rattle.lexer.proofs.numbers.eat_expo.Tie as tie
-use Rattle.lexer.proofs.numbers.eat_expo.Reads as reads
 
 eat-requires : tie.Need-eat-requires
 eat-requires c κs = search needs

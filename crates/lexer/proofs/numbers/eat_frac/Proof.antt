@@ -5,7 +5,6 @@ use borrow.Author.Needs.{needs}
 use Rattle.lexer.proofs.NumberLaws.{float-lexed, fraction-after, fraction-e, fraction-ends, fraction-stuck, fraction-word-lexed, stuck-lexed}
 use Rattle.lexer.proofs.numbers.eat_frac.Statement.{statement}
 use Rattle.lexer.proofs.numbers.eat_frac.Tie as tie
-use Rattle.lexer.proofs.numbers.eat_frac.Reads as reads
 
 eat-while-number-digit-requires : tie.Need-eat-while-number-digit-requires
 eat-while-number-digit-requires c κs = search needs

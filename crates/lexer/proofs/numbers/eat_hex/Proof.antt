@@ -5,7 +5,6 @@ use borrow.Author.Needs.{needs}
 use Rattle.lexer.proofs.NumberLaws.{hex-after, hex-bad-lexed, hex-ends, hex-missing-lexed, hex-span, hex-word-lexed, integer-lexed}
 use Rattle.lexer.proofs.numbers.eat_hex.Statement.{statement}
 use Rattle.lexer.proofs.numbers.eat_hex.Tie as tie
-use Rattle.lexer.proofs.numbers.eat_hex.Reads as reads
 
 eat-while-number-hexdigit-requires : tie.Need-eat-while-number-hexdigit-requires
 eat-while-number-hexdigit-requires c κs = search needs

@@ -5,7 +5,7 @@ use mathlib.Core.Logic.{inl, inr}
 use mathlib.Core.Path.{_∙_, sym}
 use lib.ListN.{length}
 use borrow.Author.Needs.{needs}
-use Rattle.grammar.proofs.Walk.{Reads, behind}
+use Rattle.grammar.proofs.Reading.{Reads, behind}
 use Rattle.lexer.proofs.EatLaws.{found-past, missed-past, reached-on}
 use Rattle.lexer.proofs.OperatorLaws.{comment-closed, comment-ends, comment-lexed, comment-more, comment-star}
 use Rattle.lexer.proofs.operators.eat_comment.Statement.{statement}

@@ -3,7 +3,8 @@ use native.Mathlib.Omega.{arith}
 use mathlib.Core.Path.{_∙_, refl, sym}
 use borrow.Author.Needs.{needs}
 use Rattle.grammar.specs.Classes.{operators}
-use Rattle.grammar.proofs.Walk.{misses-none, misses-or, moved-up, over-on, spelled-first, spelled-more}
+use Rattle.grammar.proofs.Seen.{misses-none, misses-or, moved-up, over-on}
+use Rattle.grammar.proofs.Reading.{spelled-first, spelled-more}
 use Rattle.lexer.proofs.OperatorLaws.{follow, isOperator, line-lexed, operator-lexed}
 use Rattle.lexer.proofs.operators.eat_minus_or_comment_or_ptr.Statement.{statement}
 use Rattle.lexer.proofs.operators.eat_minus_or_comment_or_ptr.Tie as tie

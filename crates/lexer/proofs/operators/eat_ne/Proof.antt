@@ -3,7 +3,8 @@ use native.Mathlib.Omega.{arith}
 use mathlib.Core.Path.{_∙_, refl, sym}
 use borrow.Author.Needs.{needs}
 use Rattle.grammar.specs.Classes.{operators}
-use Rattle.grammar.proofs.Walk.{misses-none, moved-up, spelled-first, spelled-more}
+use Rattle.grammar.proofs.Seen.{misses-none, moved-up}
+use Rattle.grammar.proofs.Reading.{spelled-first, spelled-more}
 use Rattle.lexer.proofs.OperatorLaws.{bang-lexed, follow, isOperator, operator-lexed}
 use Rattle.lexer.proofs.operators.eat_ne.Statement.{statement}
 use Rattle.lexer.proofs.operators.eat_ne.Tie as tie

@@ -2,7 +2,7 @@
 use native.Mathlib.Omega.{arith}
 use mathlib.Core.Path.{_∙_, sym}
 use borrow.Author.Needs.{needs}
-use Rattle.grammar.proofs.Walk.{moved-up}
+use Rattle.grammar.proofs.Seen.{moved-up}
 use Rattle.lexer.proofs.AnswerLaws.{one-token}
 use Rattle.lexer.proofs.EatLaws.{moved-on}
 use Rattle.lexer.proofs.operators.eat_one_token.Statement.{statement}

@@ -3,7 +3,8 @@ use native.Mathlib.Omega.{arith}
 use mathlib.Core.Path.{_∙_, refl, sym}
 use borrow.Author.Needs.{needs}
 use Rattle.grammar.specs.Classes.{operators}
-use Rattle.grammar.proofs.Walk.{moved-up, spelled-first, spelled-more}
+use Rattle.grammar.proofs.Seen.{moved-up}
+use Rattle.grammar.proofs.Reading.{spelled-first, spelled-more}
 use Rattle.lexer.proofs.OperatorLaws.{comment-opens, follow, isOperator, operator-lexed}
 use Rattle.lexer.proofs.operators.eat_slash_or_comment.Statement.{statement}
 use Rattle.lexer.proofs.operators.eat_slash_or_comment.Tie as tie

@@ -1,7 +1,7 @@
 -- `lexer::operators::eat_white_space` meets its contract. Assumes nothing.
 use native.Mathlib.Omega.{arith}
 use borrow.Author.Needs.{needs}
-use Rattle.grammar.proofs.Walk.{moved-up, over-on}
+use Rattle.grammar.proofs.Seen.{moved-up, over-on}
 use Rattle.lexer.proofs.OperatorLaws.{blanks-lexed}
 use Rattle.lexer.proofs.operators.eat_white_space.Statement.{statement}
 use Rattle.lexer.proofs.operators.eat_white_space.Tie as tie

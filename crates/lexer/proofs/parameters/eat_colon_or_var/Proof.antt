@@ -2,7 +2,8 @@
 use native.Mathlib.Omega.{arith}
 use mathlib.Core.Path.{_∙_, sym}
 use borrow.Author.Needs.{needs}
-use Rattle.grammar.proofs.Walk.{moved-up, spelled-first}
+use Rattle.grammar.proofs.Seen.{moved-up}
+use Rattle.grammar.proofs.Reading.{spelled-first}
 use Rattle.lexer.proofs.ParameterLaws.{colon-lexed, colon-pair, colon-start}
 use Rattle.lexer.proofs.parameters.eat_colon_or_var.Statement.{statement}
 use Rattle.lexer.proofs.parameters.eat_colon_or_var.Tie as tie

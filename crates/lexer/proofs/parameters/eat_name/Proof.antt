@@ -6,7 +6,8 @@ use lib.ListN.{length}
 use borrow.Author.Needs.{needs}
 use borrow.Author.Tests.{not-false, not-true}
 use Rattle.grammar.specs.Form.{byte}
-use Rattle.grammar.proofs.Walk.{Reads, behind, over-on, over-stops}
+use Rattle.grammar.proofs.Seen.{over-on, over-stops}
+use Rattle.grammar.proofs.Reading.{Reads, behind}
 use Rattle.lexer.proofs.EatLaws.{pair-on}
 use Rattle.lexer.proofs.ParameterLaws.{name-more, name-while}
 use Rattle.lexer.proofs.parameters.eat_name.Statement.{statement}

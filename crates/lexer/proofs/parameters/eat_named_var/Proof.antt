@@ -5,7 +5,7 @@ use mathlib.Core.Path.{_∙_, sym}
 use lib.ListN.{length}
 use borrow.Author.Needs.{needs}
 use borrow.Author.Tests.{not-false, not-true}
-use Rattle.grammar.proofs.Walk.{Reads, behind}
+use Rattle.grammar.proofs.Reading.{Reads, behind}
 use Rattle.lexer.proofs.EatLaws.{pair-on}
 use Rattle.lexer.proofs.ParameterLaws.{name-reads, nameless-ends, nameless-lexed, nameless-more}
 use Rattle.lexer.proofs.parameters.eat_named_var.Statement.{statement}

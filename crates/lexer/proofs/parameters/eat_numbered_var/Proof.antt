@@ -1,7 +1,8 @@
 -- `lexer::parameters::eat_numbered_var` meets its contract. Assumes nothing.
 use native.Mathlib.Omega.{arith}
 use borrow.Author.Needs.{needs}
-use Rattle.grammar.proofs.Walk.{moved-up, over-on, spelled-first}
+use Rattle.grammar.proofs.Seen.{moved-up, over-on}
+use Rattle.grammar.proofs.Reading.{spelled-first}
 use Rattle.lexer.proofs.ParameterLaws.{numbered-ends, variable-lexed}
 use Rattle.lexer.proofs.parameters.eat_numbered_var.Statement.{statement}
 use Rattle.lexer.proofs.parameters.eat_numbered_var.Tie as tie

@@ -7,7 +7,8 @@ use mathlib.Core.Path.{_∙_, _≡_, sym}
 use lib.ListN.{length}
 use borrow.Author.Needs.{needs}
 use borrow.Author.Tests.{not-false, not-true}
-use Rattle.grammar.proofs.Walk.{Reads, moved-up}
+use Rattle.grammar.proofs.Seen.{moved-up}
+use Rattle.grammar.proofs.Reading.{Reads}
 use Rattle.lexer.specs.Places.{isQuote}
 use Rattle.lexer.proofs.EatLaws.{found-past, missed-past, reached-on}
 use Rattle.lexer.proofs.QuoteLaws.{inQuote, open-lexed, quote-again, quote-closed, quote-found, quote-open, quote-opens, quoted-lexed}

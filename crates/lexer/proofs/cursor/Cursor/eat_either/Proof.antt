@@ -1,7 +1,7 @@
 -- `lexer::cursor::Cursor::eat_either` meets its contract. Assumes nothing.
 use mathlib.Core.Path.{_∙_, sym}
 use borrow.Author.Needs.{needs}
-use Rattle.grammar.proofs.Walk.{optional-none}
+use Rattle.grammar.proofs.Seen.{optional-none}
 use Rattle.lexer.proofs.EatLaws.{optional-taken}
 use Rattle.lexer.proofs.cursor.Cursor.eat_either.Statement.{statement}
 use Rattle.lexer.proofs.cursor.Cursor.eat_either.Tie as tie

@@ -7,7 +7,7 @@ use lib.ListN.{drop, length}
 use borrow.Author.Needs.{needs}
 use borrow.Author.Tests.{not-false, not-true}
 use Rattle.grammar.specs.Form.{D}
-use Rattle.grammar.proofs.Walk.{moved-one, over-on, seen-in}
+use Rattle.grammar.proofs.Seen.{moved-one, over-on, seen-in}
 use Rattle.lexer.specs.Eaten.{groups}
 use Rattle.lexer.proofs.GroupLaws.{group-bad, group-more, group-read}
 use Rattle.lexer.proofs.cursor.Cursor.eat_while_number_digit.Statement.{statement}

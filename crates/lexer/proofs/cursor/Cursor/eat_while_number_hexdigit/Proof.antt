@@ -6,7 +6,7 @@ use mathlib.Core.Path.{_∙_, _≡_, refl, sym}
 use lib.ListN.{drop, length}
 use borrow.Author.Needs.{needs}
 use borrow.Author.Tests.{not-false, not-true}
-use Rattle.grammar.proofs.Walk.{moved-one, over-on, seen-in}
+use Rattle.grammar.proofs.Seen.{moved-one, over-on, seen-in}
 use Rattle.lexer.specs.Eaten.{hexGroups}
 use Rattle.lexer.proofs.GroupLaws.{hex-bad, hex-more, hex-no-digit, hex-read}
 use Rattle.lexer.proofs.cursor.Cursor.eat_while_number_hexdigit.Statement.{statement}
