@@ -1,5 +1,5 @@
 -- Reading a text by hand: what is found from its start on is what is found from here on in a state. Assumes nothing.
-use Prim.Native.Nat.{ℕ, _+_, _-_, _≤_}
+use Prim.Native.Nat.{ℕ, _+_, _-_, _≤_, _<_}
 use Prim.Native.String.{String}
 use native.Mathlib.Omega.{arith}
 use native.Mathlib.Nat.{add-zero}
@@ -22,7 +22,8 @@ use Rattle.grammar.proofs.Model.{Found, nothing, found, here, onward, s
 use Rattle.grammar.proofs.Lexemes.{next-gives}
 use Rattle.grammar.proofs.Theorems.{sound}
 use Rattle.grammar.proofs.Seen.{moved-one, seen-cons, seen-holds}
-use Rattle.grammar.proofs.Walk.{ends, goes, meets, isFound, scan-found, ends-step, ends-run, joins, scan-join, scan-stop, alternate, ends-alternate, scan-joined, pairs, scan-pair, twice, scan-no-pair, along, ends-along}
+use Rattle.grammar.proofs.Walk.{ends, goes, meets, isFound, scan-found, ends-step, ends-run, joins, scan-join, scan-stop, alternate}
+use Rattle.grammar.proofs.Walk.{ends-alternate, scan-joined, pairs, scan-pair, twice, scan-no-pair, unpaired, along, ends-along}
 
 -- what is left of the rules behind a text
 unfoldable pub behind : String → State
@@ -74,7 +75,8 @@ module _ {s : List ℕ} {from at : ℕ} {q : State} (p : Reads s from at q) wher
   pub reads-join : (r : State) (t : Set) → joins q r t ≡ true → met q ≡ met r → sees (no t) (drop at s) ≡ false → Reads s from at r
   reads-join r t g m e = record { ordered = p .ordered; same = p .same ∙ ap (ends at) (scan-join q r t g m (drop at s) e) }
 
-  pub reads-alternate : (r : State) (t : Set) → goes q t r && meets r ≡ true → goes r t q && meets q ≡ true → {d : ℕ} → d ≡ over t at s → Reads s from d (alternate (d - at) q r)
+  pub reads-alternate : (r : State) (t : Set) → goes q t r && meets r ≡ true → goes r t q && meets q ≡ true → {d : ℕ} → d ≡ over t at s
+      → Reads s from d (alternate (d - at) q r)
   unfolding over
   reads-alternate r t g h {d} f =
       let o = p .ordered in
@@ -147,7 +149,8 @@ module _ {s : List ℕ} {from at : ℕ} {q : State} (p : Reads s from at q) wher
   pub reads-stop : (t : Set) (k : ℕ) → goes q (no t) [] ≡ true → met q ≡ k ∷ [] → sees t (drop at s) ≡ false → Ends s from at k
   reads-stop t k g m e = reads-found k (scan-stop q t k g m (drop at s) e)
 
-  pub reads-no-pair : (m : State) (t : Set) (k : ℕ) → goes q (no (t or char ":")) [] && goes q (char ":") m && goes m (no (char ":")) [] ≡ true → met m ≡ [] → met q ≡ k ∷ []
+  pub reads-no-pair : (m : State) (t : Set) (k : ℕ) → unpaired q m t ≡ true
+      → met m ≡ [] → met q ≡ k ∷ []
       → sees t (drop at s) ≡ false → seesPair (drop at s) ≡ false → Ends s from at k
   reads-no-pair m t k g n e f h = reads-found k (scan-no-pair q m t k g n e (drop at s) f h)
 
@@ -167,33 +170,34 @@ ends-found from at k (found n j) e =
     let i : j ≡ k = cc in
     rw i (ap (λ (m : ℕ). found m k) (omega arith))
 
-pub ends-gives : {s : List ℕ} {from at k : ℕ} → Ends s from at k → Gives rules s from (answer (ruleAt rules k .class) from (part s from at))
-ends-gives {s} {from} {at} {k} e =
-    let f = ends-found from at k (scan (start rules) (drop from s)) (e .same) in
-    split (ltb from (length s))
-    (λ l. let h = ltb-true from (length s) l in
-    subst (Gives rules s from)
-    (rw (le-ltb (length s) from (omega arith), ne-eqb from (length s) (omega arith)) (ap (given rules (drop from s) from) f))
-    (next-gives rules sound s from))
-    (λ l. let d = drop-of-length-le s (ltb-false from (length s) l) in
-    absurd (let z : nothing ≡ found (at - from) k = sym empty-text ∙ ap (scan (start rules)) (sym d) ∙ f in let y : _≡_ {A = Bool} true false = cc in true≢false y))
+module _ {s : List ℕ} {from at k : ℕ} (e : Ends s from at k) where
+  lexeme : scan (start rules) (drop from s) ≡ found (at - from) k
+  lexeme = ends-found from at k (scan (start rules) (drop from s)) (e .same)
 
-pub ends-long : {s : List ℕ} {from at k : ℕ} → Ends s from at k → length (part s from at) ≡ at - from
-ends-long {s} {from} {at} {k} e =
-    let f = ends-found from at k (scan (start rules) (drop from s)) (e .same) in
-    let r = subst (Right (start rules) (drop from s)) f (scan-right (drop from s) (start rules)) in
-    length-take-le (at - from) (drop from s) (r .0)
+  pub ends-from : from < length s
+  ends-from =
+      split (ltb from (length s))
+      (λ h. ltb-true from (length s) h)
+      (λ h. let d = drop-of-length-le s (ltb-false from (length s) h) in absurd (none (sym empty-text ∙ ap (scan (start rules)) (sym d) ∙ lexeme)))
+    where
+      none : nothing ≡ found (at - from) k → ⊥
+      none z = let y : _≡_ {A = Bool} true false = cc in true≢false y
 
-pub ends-in : {s : List ℕ} {from at k : ℕ} → Ends s from at k → at ≤ length s
-ends-in {s} {from} {at} {k} e =
-    let f = ends-found from at k (scan (start rules) (drop from s)) (e .same) in
-    let r = subst (Right (start rules) (drop from s)) f (scan-right (drop from s) (start rules)) in
-    let o = e .ordered in
-    let l = r .0 in
-    split (ltb from (length s))
-    (λ h. omega (arith, ltb-true from (length s) h, length-drop from s))
-    (λ h. let d = drop-of-length-le s (ltb-false from (length s) h) in
-    absurd (let z : nothing ≡ found (at - from) k = sym empty-text ∙ ap (scan (start rules)) (sym d) ∙ f in let y : _≡_ {A = Bool} true false = cc in true≢false y))
+  pub ends-gives : Gives rules s from (answer (ruleAt rules k .class) from (part s from at))
+  ends-gives =
+      let h = ends-from in
+      subst (Gives rules s from)
+      (rw (le-ltb (length s) from (omega arith), ne-eqb from (length s) (omega arith)) (ap (given rules (drop from s) from) lexeme))
+      (next-gives rules sound s from)
+
+  inside-text : at - from ≤ length (drop from s)
+  inside-text = subst (Right (start rules) (drop from s)) lexeme (scan-right (drop from s) (start rules)) .0
+
+  pub ends-long : length (part s from at) ≡ at - from
+  ends-long = length-take-le (at - from) (drop from s) inside-text
+
+  pub ends-in : at ≤ length s
+  ends-in = omega (arith, ends-from, inside-text, length-drop from s)
 
 -- The text has w from `from` to `at`.
 pub record Spelled (s : List ℕ) (from at : ℕ) (w : List ℕ) : Type 0 where

@@ -69,7 +69,8 @@ ends-step q t r g m at b l h =
     ap (λ (p : State). ends at (onward (scan p l) (met q))) (goes-step q t r g b h) ∙ ends-onward at (scan r l) (met q) (scan-found r l m)
 
 -- the run of a set that leads back to the state
-pub ends-run : (q : State) (t : Set) → goes q t q ≡ true → meets q ≡ true → (l : List ℕ) (at : ℕ) → ends at (scan q l) ≡ ends (at + run t l) (scan q (drop (run t l) l))
+pub ends-run : (q : State) (t : Set) → goes q t q ≡ true → meets q ≡ true → (l : List ℕ) (at : ℕ)
+    → ends at (scan q l) ≡ ends (at + run t l) (scan q (drop (run t l) l))
 unfolding run
 ends-run q t g m [] at = rw add-zero
 ends-run q t g m (b ∷ l) at =
@@ -134,7 +135,8 @@ alternate-odd a b (suc zero) e = refl
 alternate-odd a b (suc (suc n)) e = alternate-odd a b n (λ h. e (omega arith))
 
 -- two states from which a byte leads on to the same
-pub scan-joined : (q r : State) (t : Set) (p : State) → goes q t p ≡ true → goes r t p ≡ true → meets p ≡ true → (l : List ℕ) → sees t l ≡ true → scan q l ≡ scan r l
+pub scan-joined : (q r : State) (t : Set) (p : State) → goes q t p ≡ true → goes r t p ≡ true → meets p ≡ true → (l : List ℕ) → sees t l ≡ true
+    → scan q l ≡ scan r l
 unfolding sees
 scan-joined q r t p g h m [] e = absurd (true≢false (sym e))
 scan-joined q r t p g h m (b ∷ l) e =
@@ -163,24 +165,32 @@ twice nothing k l at e = absurd (true≢false (sym e))
 twice (found n j) k l at e = ap (λ (m : ℕ). found m j) (omega arith)
 
 -- no pair follows: then a colon does not count
-pub scan-no-pair : (q m : State) (t : Set) (k : ℕ) → goes q (no (t or char ":")) [] && goes q (char ":") m && goes m (no (char ":")) [] ≡ true → met m ≡ [] → met q ≡ k ∷ []
-    → (l : List ℕ) → sees t l ≡ false → seesPair l ≡ false → scan q l ≡ found 0 k
-unfolding sees seesPair
-scan-no-pair q m t k g n e [] = λ f h. ap here e
-scan-no-pair q m t k g n e (b ∷ l) =
-    let x = goes q (no (t or char ":")) [] in
-    let y = goes q (char ":") m in
-    let z = goes m (no (char ":")) [] in
-    let xy = and-left (x && y) z g in
-    split (holds (char ":") b)
-    (λ c. let d = c in λ f. rw c (λ h. ap (λ (p : State). onward (scan p l) (met q)) (goes-step q (char ":") m (and-right x y xy) b d) ∙ colon l h))
-    (λ c. let d = c in λ f h. ap (λ (p : State). onward (scan p l) (met q)) (goes-step q (no (t or char ":")) [] (and-left x y xy) b (rw (f, d))) ∙ rw (dead l) (ap here e))
-  where
-    colon : (l : List ℕ) → sees (char ":") (drop 1 (b ∷ l)) ≡ false → onward (scan m l) (met q) ≡ found 0 k
-    colon [] h = rw (n, e)
-    colon (c ∷ l) h =
-        ap (λ (p : State). onward (onward (scan p l) (met m)) (met q)) (goes-step m (no (char ":")) [] (and-right (goes q (no (t or char ":")) [] && goes q (char ":") m) (goes m (no (char ":")) []) g) c (ap not h))
-        ∙ rw (dead l, n, e)
+abbrev pub unpaired : State → State → Set → Bool
+unpaired q m t = goes q (no (t or char ":")) [] && goes q (char ":") m && goes m (no (char ":")) []
+
+module _ (q m : State) (t : Set) (k : ℕ) (g : unpaired q m t ≡ true) (n : met m ≡ []) (e : met q ≡ k ∷ []) where
+  other : goes q (no (t or char ":")) [] && goes q (char ":") m ≡ true
+  other = and-left (goes q (no (t or char ":")) [] && goes q (char ":") m) (goes m (no (char ":")) []) g
+
+  lone : goes m (no (char ":")) [] ≡ true
+  lone = and-right (goes q (no (t or char ":")) [] && goes q (char ":") m) (goes m (no (char ":")) []) g
+
+  colon : (l : List ℕ) → sees (char ":") l ≡ false → onward (scan m l) (met q) ≡ found 0 k
+  unfolding sees
+  colon [] h = rw (n, e)
+  colon (c ∷ l) h =
+      ap (λ (p : State). onward (onward (scan p l) (met m)) (met q)) (goes-step m (no (char ":")) [] lone c (ap not h)) ∙ rw (dead l, n, e)
+
+  pub scan-no-pair : (l : List ℕ) → sees t l ≡ false → seesPair l ≡ false → scan q l ≡ found 0 k
+  unfolding sees seesPair
+  scan-no-pair [] = λ f h. ap here e
+  scan-no-pair (b ∷ l) =
+      let x = goes q (no (t or char ":")) [] in
+      let y = goes q (char ":") m in
+      let on : (r : State) → step b q ≡ r → scan q (b ∷ l) ≡ onward (scan r l) (met q) = λ r d. ap (λ (p : State). onward (scan p l) (met q)) d in
+      split (holds (char ":") b)
+      (λ c. let d = c in λ f. rw c (λ h. on m (goes-step q (char ":") m (and-right x y other) b d) ∙ colon l h))
+      (λ c. let d = c in λ f h. on [] (goes-step q (no (t or char ":")) [] (and-left x y other) b (rw (f, d))) ∙ rw (dead l) (ap here e))
 
 -- A rule is met behind each of the bytes.
 abbrev pub along : State → List ℕ → Bool

@@ -48,7 +48,8 @@ module _ (t : Set) (g i : ℕ) where
   groups-bad [] d e f = absurd (true≢false (sym e))
   groups-bad (b ∷ l) d e f = rw (d, e, f)
 
-  groups-more : (l : List ℕ) → sees t l ≡ false → sees (char "_") l ≡ true → sees t (drop 1 l) ≡ true → groups t g i l ≡ groups t (i + 1) (i + 1) (drop 1 l)
+  groups-more : (l : List ℕ) → sees t l ≡ false → sees (char "_") l ≡ true → sees t (drop 1 l) ≡ true
+      → groups t g i l ≡ groups t (i + 1) (i + 1) (drop 1 l)
   unfolding sees groups
   groups-more [] d e f = absurd (true≢false (sym e))
   groups-more (b ∷ l) d e f = rw (d, e, f)

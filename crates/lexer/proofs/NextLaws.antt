@@ -53,7 +53,8 @@ byte-in t b [] h e = absurd (true≢false (sym h))
 byte-in t b (x ∷ l) h e = rw (eqb-true x b h) e
 
 -- operators of one byte that nothing makes longer
-pub single-lexed : (b : ℕ) (s : List ℕ) (at : ℕ) → At (byte b) at s → isColon (b ∷ []) ≡ false → isOperator (b ∷ []) operators ≡ true → follow (b ∷ []) ≡ none
+pub single-lexed : (b : ℕ) (s : List ℕ) (at : ℕ) → At (byte b) at s → isColon (b ∷ []) ≡ false → isOperator (b ∷ []) operators ≡ true
+    → follow (b ∷ []) ≡ none
     → (r : Lexed) → r ≡ Token (kindIn operators (b ∷ [])) at 1 (cursor (at + 1)) → Lexes s at r
 single-lexed b s at h n o f r e =
     let d : 1 ≡ at + 1 - at = omega arith in

@@ -46,7 +46,8 @@ unfolding behind rules operators isDigit isHexdigit isIdentifierStart isIdentifi
 hex-run = record { digit = refl; line = refl; back = refl; stop = refl; rule = refl; digits-in = refl; line-in = refl; apart = refl }
 
 -- spans: from a place x of the lexeme to another
-pub span-lexes : {s : List ℕ} {from at k : ℕ} (e : Ends s from at k) (why : Refusal) (m n : ℕ) → answer (ruleAt rules k .class) from (part s from at) ≡ refusal (numberOf why) (from + m) n from
+pub span-lexes : {s : List ℕ} {from at k : ℕ} (e : Ends s from at k) (why : Refusal) (m n : ℕ)
+    → answer (ruleAt rules k .class) from (part s from at) ≡ refusal (numberOf why) (from + m) n from
     → (x y : ℕ) → x ≡ from + m → y ≡ n → (r : Lexed) → r ≡ Refused why x y (cursor from) → Lexes s from r
 span-lexes {s} {from} e why m n a x y p q r f = lexes e r (refusal (numberOf why) (from + m) n from) a (rw (f, p, q))
 
@@ -349,7 +350,8 @@ module _ {s : List ℕ} {from at : ℕ} (p : Hex s from at) where
   hex-plain b h = b ∙ hex-groups at (drop at s) h
 
   -- `_` at once, or behind digits
-  pub hex-bad-lexed : {g e : ℕ} → Bad (cursor g) (cursor e) ≡ hexGroups at (drop at s) → (r : Lexed) → r ≡ Refused BadNumber g (e - g) (cursor from) → Lexes s from r
+  pub hex-bad-lexed : {g e : ℕ} → Bad (cursor g) (cursor e) ≡ hexGroups at (drop at s) → (r : Lexed) → r ≡ Refused BadNumber g (e - g) (cursor from)
+      → Lexes s from r
   unfolding rules answer
   hex-bad-lexed {g} {e} b r f =
       let w = p .two in

@@ -78,7 +78,8 @@ unfoldable pub isOperator : List ℕ → List Entry → Bool
 isOperator w [] = false
 isOperator w (e ∷ l) = same w (e .word) || isOperator w l
 
-operator-fits : (w : List ℕ) (l : List Entry) → isColon w ≡ false → every (λ (e : Entry). isColon (e .word) || fits (e .word)) l ≡ true → isOperator w l ≡ true
+operator-fits : (w : List ℕ) (l : List Entry) → isColon w ≡ false → every (λ (e : Entry). isColon (e .word) || fits (e .word)) l ≡ true
+    → isOperator w l ≡ true
     → fits w ≡ true
 unfolding isOperator
 operator-fits w [] n a = λ e. absurd (true≢false (sym e))
@@ -149,7 +150,8 @@ module _ {s : List ℕ} {from at : ℕ} (p : Reads s from at (behind "/**")) whe
   unfolding behind rules operators isDigit isHexdigit isIdentifierStart isIdentifierContinue isBlank
   comment-more h = reads-join p (behind "/*") (no (char "/")) refl refl (inside-misses (no (no (char "/"))) (char "/") refl _ h)
 
-pub comment-lexed : {s : List ℕ} {from at : ℕ} → Ends s from at 3 ⊎ Ends s from at 4 → (r : Lexed) → r ≡ Token 0 from (at - from) (cursor at) → Lexes s from r
+pub comment-lexed : {s : List ℕ} {from at : ℕ} → Ends s from at 3 ⊎ Ends s from at 4 → (r : Lexed) → r ≡ Token 0 from (at - from) (cursor at)
+    → Lexes s from r
 unfolding rules answer
 comment-lexed (inl e) r q = token-lexes e 0 r refl q
 comment-lexed (inr e) r q = token-lexes e 0 r refl q

@@ -86,11 +86,13 @@ module _ (q : ℕ) (i : isQuote q ≡ true) {s : List ℕ} {from : ℕ} where
   pub quote-again : {at d : ℕ} → Reads s from at (outQuote q) → sees (byte q) (drop at s) ≡ true → d ≡ moved at s → Reads s from d (inQuote q)
   quote-again p h f = reads-eat p (byte q) (inQuote q) (quote q i .again) h f
 
-pub open-lexed : {s : List ℕ} {from at : ℕ} → Ends s from at 16 → (r : Lexed) → r ≡ Refused UnterminatedLiteral from (at - from) (cursor from) → Lexes s from r
+pub open-lexed : {s : List ℕ} {from at : ℕ} → Ends s from at 16 → (r : Lexed) → r ≡ Refused UnterminatedLiteral from (at - from) (cursor from)
+    → Lexes s from r
 unfolding rules answer
 open-lexed e r f = whole-lexes e UnterminatedLiteral r refl f
 
-pub quoted-lexed : (q : ℕ) {s : List ℕ} {from at : ℕ} → Ends s from at (closed q) → (k : ℕ) → k ≡ quoteKind q → (r : Lexed) → r ≡ Token k from (at - from) (cursor at)
+pub quoted-lexed : (q : ℕ) {s : List ℕ} {from at : ℕ} → Ends s from at (closed q) → (k : ℕ) → k ≡ quoteKind q → (r : Lexed)
+    → r ≡ Token k from (at - from) (cursor at)
     → Lexes s from r
 unfolding rules answer
 quoted-lexed q =

@@ -69,13 +69,15 @@ only-any s from at = all (part s from at)
     all (b ∷ w) = all w
 
 -- the first byte of a set
-first-at : (t u : Set) → inside t (no u) ≡ true → (w : List ℕ) (b : ℕ) (v : List ℕ) → every (holds t) w ≡ true → holds u b ≡ true → first u (w ++ b ∷ v) ≡ length w
+first-at : (t u : Set) → inside t (no u) ≡ true → (w : List ℕ) (b : ℕ) (v : List ℕ) → every (holds t) w ≡ true → holds u b ≡ true
+    → first u (w ++ b ∷ v) ≡ length w
 first-at t u i [] b v e h = rw h
 first-at t u i (x ∷ w) b v e h =
     let n : holds u x ≡ false = not-true (holds u x) (inside-holds t (no u) i x (and-left (holds t x) (every (holds t) w) e)) in
     rw n (ap suc (first-at t u i w b v (and-right (holds t x) (every (holds t) w) e) h))
 
-pub first-in : (t u : Set) → inside t (no u) ≡ true → (s : List ℕ) (from at e : ℕ) → from ≤ at → at < e → e ≤ length s → Only t s from at → sees u (drop at s) ≡ true
+pub first-in : (t u : Set) → inside t (no u) ≡ true → (s : List ℕ) (from at e : ℕ) → from ≤ at → at < e → e ≤ length s → Only t s from at
+    → sees u (drop at s) ≡ true
     → first u (part s from e) ≡ at - from
 first-in t u i s from at e o l h p q =
     let (v, c) = part-cut s from at o e l h in

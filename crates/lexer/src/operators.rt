@@ -80,25 +80,6 @@ pub(crate) fn eat_slash_or_comment(text: &[u8], start: Cursor) -> Lexed
     token(TK_SLASH, start, slash)
 }
 
-// C-style comments begin with "/*" and extend up to and including the next "*/" or until the end.
-fn eat_comment(text: &[u8], start: Cursor, at: Cursor) -> Lexed
-    requires { ⌜ Reads (now text) (start .at) (at .at) (behind "/*") ⌝ }
-    ensures { λ r. ⌜ Lexes (now (text .entry)) (start .at) r ⌝ }
-{
-    let mut body = at;
-    loop {
-        match body.eat_past(text, b'*') {
-            Past::Missed(end) => return token(TK_NONE, start, end),
-            Past::Found(star) => {
-                if star.sees(text, b'/') {
-                    return token(TK_NONE, start, star.eat(text));
-                }
-                body = star;
-            }
-        }
-    }
-}
-
 pub(crate) fn eat_eq(text: &[u8], start: Cursor) -> Lexed
     requires { ⌜ At (char "=") (start .at) (now text) ⌝ }
     ensures { λ r. ⌜ Lexes (now (text .entry)) (start .at) r ⌝ }
@@ -184,4 +165,23 @@ pub(crate) fn eat_array_contains_or_var(text: &[u8], start: Cursor) -> Lexed
         return token(TK_ARRAY_CONTAINS, start, at.eat(text));
     }
     eat_named_var(text, start, at)
+}
+
+// C-style comments begin with "/*" and extend up to and including the next "*/" or until the end.
+fn eat_comment(text: &[u8], start: Cursor, at: Cursor) -> Lexed
+    requires { ⌜ Reads (now text) (start .at) (at .at) (behind "/*") ⌝ }
+    ensures { λ r. ⌜ Lexes (now (text .entry)) (start .at) r ⌝ }
+{
+    let mut body = at;
+    loop {
+        match body.eat_past(text, b'*') {
+            Past::Missed(end) => return token(TK_NONE, start, end),
+            Past::Found(star) => {
+                if star.sees(text, b'/') {
+                    return token(TK_NONE, start, star.eat(text));
+                }
+                body = star;
+            }
+        }
+    }
 }
