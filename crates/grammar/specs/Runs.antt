@@ -16,10 +16,11 @@ unfoldable pub run : Set → List ℕ → ℕ
 run t [] = 0
 run t (b ∷ s) = cond (holds t b) (suc (run t s)) 0
 
--- with a `::` pair
+-- a byte by its character
 abbrev pub char : Char → Set
 char c = byte (code c)
 
+-- with a `::` pair
 unfoldable pub seesPair : List ℕ → Bool
 seesPair s = sees (char ":") s && sees (char ":") (drop 1 s)
 

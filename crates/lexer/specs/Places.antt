@@ -1,4 +1,6 @@
--- What the lexer's parts ask of the place at which they are called. Assumes nothing.
+-- What private functions ask of the place at which they are called; the contract of `next` does not rest on it. `Reads s start at
+-- (behind "1e")` of the grammar's Reading.antt says that the lexeme of s from `start` on is found by going on from `at` as if `1e` had been
+-- read. Assumes nothing.
 use Prim.Native.Nat.{ℕ, _+_, _-_, _≤_, max}
 use mathlib.Core.Path.{_≡_}
 use mathlib.Core.Bool.{Bool, true, false, cond}
