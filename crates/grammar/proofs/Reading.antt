@@ -232,10 +232,7 @@ module _ {s : List ℕ} {from at : ℕ} {w : List ℕ} (p : Spelled s from at w)
   pub spelled-more : (b : ℕ) → sees (byte b) (drop at s) ≡ true → {d : ℕ} → d ≡ moved at s → Spelled s from d (w ++ b ∷ [])
   spelled-more b e f = subst (λ (n : ℕ). Spelled s from n (w ++ b ∷ [])) (sym (f ∙ moved-one (byte b) s at e)) (one-more b e)
 
-  pub spelled-up : from ≤ at
-  spelled-up = let l = p .long in omega arith
-
-pub spelled-none : (s : List ℕ) (at : ℕ) → Spelled s at at []
+spelled-none : (s : List ℕ) (at : ℕ) → Spelled s at at []
 spelled-none s at = record { long = sym (add-zero at); text = refl }
 
 pub spelled-first : (b : ℕ) (s : List ℕ) (at : ℕ) → sees (byte b) (drop at s) ≡ true → {d : ℕ} → d ≡ moved at s → Spelled s at d (b ∷ [])

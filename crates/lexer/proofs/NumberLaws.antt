@@ -46,7 +46,7 @@ unfolding behind rules operators isDigit isHexdigit isIdentifierStart isIdentifi
 hex-run = record { digit = refl; line = refl; back = refl; stop = refl; rule = refl; digits-in = refl; line-in = refl; apart = refl }
 
 -- spans: from a place x of the lexeme to another
-pub span-lexes : {s : List ℕ} {from at k : ℕ} (e : Ends s from at k) (why : Refusal) (m n : ℕ)
+span-lexes : {s : List ℕ} {from at k : ℕ} (e : Ends s from at k) (why : Refusal) (m n : ℕ)
     → answer (ruleAt rules k .class) from (part s from at) ≡ refusal (numberOf why) (from + m) n from
     → (x y : ℕ) → x ≡ from + m → y ≡ n → (r : Lexed) → r ≡ Refused why x y (cursor from) → Lexes s from r
 span-lexes {s} {from} e why m n a x y p q r f = lexes e r (refusal (numberOf why) (from + m) n from) a (rw (f, p, q))
@@ -61,7 +61,7 @@ module _ {s : List ℕ} {from i g e : ℕ} (r : Lexed) (f : r ≡ Refused BadNum
       let l = ends-long (b .ends) in
       span-lexes (b .ends) BadNumber _ _ refl _ _ (omega arith) (omega arith) r f
 
-  pub hex-stuck-lexed : from + 2 ≤ i → Stuck H s from i g e 28 → Lexes s from r
+  hex-stuck-lexed : from + 2 ≤ i → Stuck H s from i g e 28 → Lexes s from r
   unfolding rules answer
   hex-stuck-lexed h b =
       let z = init-part s from (b .line) (omega arith) e (b .last) (b .text) in

@@ -32,7 +32,7 @@ use Rattle.lexer.proofs.AnswerLaws.{token-lexes, whole-lexes}
 
 -- a blank run
 module _ (s : List ℕ) (from d e : ℕ) (h : At blank from s) (f : d ≡ moved from s) (g : e ≡ over blank d s) where
-  pub blanks-end : Ends s from e 0
+  blanks-end : Ends s from e 0
   unfolding behind rules operators isDigit isHexdigit isIdentifierStart isIdentifierContinue isBlank
   blanks-end =
       let p = reads-eat (begin s from) blank (behind " ") refl h f in

@@ -25,7 +25,7 @@ module _ (s : List ℕ) (from at : ℕ) (o : from ≤ at) where
       let m : from + (at - from) ≡ at = omega arith in
       rw n (take-suc (drop from s) (at - from) 0 (omega (arith, length-drop from s)) ∙ rw (getD-drop (from) s (at - from) 0, m))
 
-  pub part-cut : (e : ℕ) → at < e → e ≤ length s → (v : List ℕ) × (part s from e ≡ part s from at ++ getD s at 0 ∷ v)
+  part-cut : (e : ℕ) → at < e → e ≤ length s → (v : List ℕ) × (part s from e ≡ part s from at ++ getD s at 0 ∷ v)
   part-cut e l h =
       let w = part s from e in
       let n : length w ≡ e - from = length-take-le (e - from) (drop from s) (omega (arith, length-drop from s)) in
