@@ -2,7 +2,7 @@
 use mathlib.Core.Path.{_∙_, sym}
 use borrow.Author.Needs.{needs}
 use borrow.Author.Tests.{not-false, not-true}
-use Rattle.lexer.proofs.NameLaws.{word-first, x-first, x-quote, x-word}
+use Rattle.lexer.proofs.IdentifierLaws.{word-first, x-first, x-quote, x-word}
 use Rattle.lexer.proofs.identifiers.eat_blob_or_id.Statement.{statement}
 use Rattle.lexer.proofs.identifiers.eat_blob_or_id.Tie as tie
 

@@ -1,7 +1,7 @@
 -- `lexer::identifiers::eat_id` meets its contract. Assumes nothing.
 use borrow.Author.Needs.{needs}
 use Rattle.grammar.proofs.Reading.{ends-in}
-use Rattle.lexer.proofs.NameLaws.{word-ends, word-lexed}
+use Rattle.lexer.proofs.IdentifierLaws.{word-ends, word-lexed}
 use Rattle.lexer.proofs.identifiers.eat_id.Statement.{statement}
 use Rattle.lexer.proofs.identifiers.eat_id.Tie as tie
 

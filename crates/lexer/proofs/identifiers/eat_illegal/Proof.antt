@@ -3,7 +3,7 @@ use native.Mathlib.Omega.{arith}
 use borrow.Author.Needs.{needs}
 use Rattle.grammar.proofs.Seen.{moved-up, over-on}
 use Rattle.grammar.proofs.Reading.{spelled-first}
-use Rattle.lexer.proofs.NameLaws.{illegal-lexed}
+use Rattle.lexer.proofs.IdentifierLaws.{illegal-lexed}
 use Rattle.lexer.proofs.identifiers.eat_illegal.Statement.{statement}
 use Rattle.lexer.proofs.identifiers.eat_illegal.Tie as tie
 

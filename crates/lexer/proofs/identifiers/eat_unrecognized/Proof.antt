@@ -1,7 +1,7 @@
 -- `lexer::identifiers::eat_unrecognized` meets its contract. Assumes nothing.
 use borrow.Author.Needs.{needs}
 use Rattle.grammar.proofs.Seen.{over-on}
-use Rattle.lexer.proofs.NameLaws.{unrecognized-lexed}
+use Rattle.lexer.proofs.IdentifierLaws.{unrecognized-lexed}
 use Rattle.lexer.proofs.identifiers.eat_unrecognized.Statement.{statement}
 use Rattle.lexer.proofs.identifiers.eat_unrecognized.Tie as tie
 

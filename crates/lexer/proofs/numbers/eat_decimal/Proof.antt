@@ -2,7 +2,8 @@
 use native.Mathlib.Omega.{arith}
 use mathlib.Core.Path.{_∙_, sym}
 use borrow.Author.Needs.{needs}
-use Rattle.lexer.proofs.NumberLaws.{decimal-after, decimal-stuck, integer-dot, integer-e, integer-ends, integer-lexed, integer-word-lexed, stuck-lexed}
+use Rattle.lexer.proofs.NumberLaws.{integer-lexed, stuck-lexed}
+use Rattle.lexer.proofs.IntegerLaws.{decimal-after, decimal-stuck, integer-dot, integer-e, integer-ends, integer-word-lexed}
 use Rattle.lexer.proofs.numbers.eat_decimal.Statement.{statement}
 use Rattle.lexer.proofs.numbers.eat_decimal.Tie as tie
 

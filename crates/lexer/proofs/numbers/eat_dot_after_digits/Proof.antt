@@ -1,7 +1,8 @@
 -- `lexer::numbers::eat_dot_after_digits` meets its contract. Assumes nothing.
 use mathlib.Core.Path.{_∙_, sym}
 use borrow.Author.Needs.{needs}
-use Rattle.lexer.proofs.NumberLaws.{dot-e, dot-ends, dot-fraction, float-lexed}
+use Rattle.lexer.proofs.NumberLaws.{float-lexed}
+use Rattle.lexer.proofs.FractionLaws.{dot-e, dot-ends, dot-fraction}
 use Rattle.lexer.proofs.numbers.eat_dot_after_digits.Statement.{statement}
 use Rattle.lexer.proofs.numbers.eat_dot_after_digits.Tie as tie
 

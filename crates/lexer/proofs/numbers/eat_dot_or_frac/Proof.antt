@@ -5,7 +5,7 @@ use borrow.Author.Needs.{needs}
 use Rattle.grammar.specs.Classes.{operators}
 use Rattle.grammar.proofs.Seen.{moved-up}
 use Rattle.grammar.proofs.Reading.{spelled-first}
-use Rattle.lexer.proofs.NumberLaws.{first-fraction}
+use Rattle.lexer.proofs.FractionLaws.{first-fraction}
 use Rattle.lexer.proofs.OperatorLaws.{follow, isOperator, operator-lexed}
 use Rattle.lexer.proofs.numbers.eat_dot_or_frac.Statement.{statement}
 use Rattle.lexer.proofs.numbers.eat_dot_or_frac.Tie as tie

@@ -3,7 +3,8 @@ use native.Mathlib.Omega.{arith}
 use mathlib.Core.Path.{_∙_, sym}
 use borrow.Author.Needs.{needs}
 use Rattle.grammar.proofs.Seen.{moved-up, optional-up}
-use Rattle.lexer.proofs.NumberLaws.{exponent-after, exponent-ends, exponent-missing-lexed, exponent-stuck, exponent-word-lexed, float-lexed, stuck-lexed}
+use Rattle.lexer.proofs.NumberLaws.{float-lexed, stuck-lexed}
+use Rattle.lexer.proofs.ExponentLaws.{exponent-after, exponent-ends, exponent-missing-lexed, exponent-stuck, exponent-word-lexed}
 use Rattle.lexer.proofs.numbers.eat_expo.Statement.{statement}
 use Rattle.lexer.proofs.numbers.eat_expo.Tie as tie
 

@@ -2,7 +2,8 @@
 use native.Mathlib.Omega.{arith}
 use mathlib.Core.Path.{_∙_, sym}
 use borrow.Author.Needs.{needs}
-use Rattle.lexer.proofs.NumberLaws.{float-lexed, fraction-after, fraction-e, fraction-ends, fraction-stuck, fraction-word-lexed, stuck-lexed}
+use Rattle.lexer.proofs.NumberLaws.{float-lexed, stuck-lexed}
+use Rattle.lexer.proofs.FractionLaws.{fraction-after, fraction-e, fraction-ends, fraction-stuck, fraction-word-lexed}
 use Rattle.lexer.proofs.numbers.eat_frac.Statement.{statement}
 use Rattle.lexer.proofs.numbers.eat_frac.Tie as tie
 

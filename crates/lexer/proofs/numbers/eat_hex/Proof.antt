@@ -2,7 +2,8 @@
 use native.Mathlib.Omega.{arith}
 use mathlib.Core.Path.{_∙_, sym}
 use borrow.Author.Needs.{needs}
-use Rattle.lexer.proofs.NumberLaws.{hex-after, hex-bad-lexed, hex-ends, hex-missing-lexed, hex-span, hex-word-lexed, integer-lexed}
+use Rattle.lexer.proofs.NumberLaws.{integer-lexed}
+use Rattle.lexer.proofs.HexLaws.{hex-after, hex-bad-lexed, hex-ends, hex-missing-lexed, hex-span, hex-word-lexed}
 use Rattle.lexer.proofs.numbers.eat_hex.Statement.{statement}
 use Rattle.lexer.proofs.numbers.eat_hex.Tie as tie
 

@@ -2,7 +2,7 @@
 use mathlib.Core.Path.{_∙_, sym}
 use borrow.Author.Needs.{needs}
 use borrow.Author.Tests.{not-false, not-true}
-use Rattle.lexer.proofs.NumberLaws.{decimal-first, decimal-zero, hex-first}
+use Rattle.lexer.proofs.IntegerLaws.{decimal-first, decimal-zero, hex-first}
 use Rattle.lexer.proofs.numbers.eat_number.Statement.{statement}
 use Rattle.lexer.proofs.numbers.eat_number.Tie as tie
 

@@ -3,7 +3,7 @@ use mathlib.Core.Path.{_∙_, sym}
 use borrow.Author.Needs.{needs}
 use borrow.Author.Tests.{not-false, not-true}
 use Rattle.grammar.proofs.Seen.{over-on}
-use Rattle.lexer.proofs.QuoteLaws.{blob-even, blob-lexed, blob-odd, blob-odd-lexed, blob-open, blob-open-lexed}
+use Rattle.lexer.proofs.QuotedLaws.{blob-even, blob-lexed, blob-odd, blob-odd-lexed, blob-open, blob-open-lexed}
 use Rattle.lexer.proofs.quoted.eat_blob.Statement.{statement}
 use Rattle.lexer.proofs.quoted.eat_blob.Tie as tie
 

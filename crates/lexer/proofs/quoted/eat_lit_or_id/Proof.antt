@@ -11,7 +11,7 @@ use Rattle.grammar.proofs.Seen.{moved-up}
 use Rattle.grammar.proofs.Reading.{Reads}
 use Rattle.lexer.specs.Places.{isQuote}
 use Rattle.lexer.proofs.EatLaws.{found-past, missed-past, reached-on}
-use Rattle.lexer.proofs.QuoteLaws.{inQuote, open-lexed, quote-again, quote-closed, quote-found, quote-open, quote-opens, quoted-lexed}
+use Rattle.lexer.proofs.QuotedLaws.{inQuote, open-lexed, quote-again, quote-closed, quote-found, quote-open, quote-opens, quoted-lexed}
 use Rattle.lexer.proofs.quoted.eat_lit_or_id.Statement.{statement}
 use Rattle.lexer.proofs.quoted.eat_lit_or_id.Tie as tie
 

@@ -1,0 +1,143 @@
+-- The exponent of a number. Assumes nothing.
+use Prim.Native.Nat.{ℕ, _+_, _-_, _≤_, _<_}
+use native.Mathlib.Omega.{arith}
+use mathlib.Core.Path.{_≡_, refl, sym, _∙_, ap}
+use mathlib.Core.Bool.{Bool, true, false, true≢false}
+use mathlib.Core.List.{List}
+use lib.ListN.{length, drop}
+use Rattle.keywords.proofs.Logic.{split}
+use Rattle.words.specs.Bytes.{isDigit, isHexdigit, isIdentifierStart, isIdentifierContinue, isBlank}
+use Rattle.grammar.specs.Form.{none, D, S, any, _or_, _except_, oneOf}
+use Rattle.grammar.specs.Classes.{operators, rules}
+use Rattle.grammar.specs.Answers.{first, init, answer}
+use Rattle.grammar.specs.Runs.{char, sees, part, moved, optional}
+use Rattle.grammar.proofs.Seen.{misses-none, misses-or, or-left, or-right, or-other, inside-sees, except-sees}
+use Rattle.grammar.proofs.Seen.{moved-one, seen-in, optional-one, optional-none}
+use Rattle.grammar.proofs.Reading.{Reads, Ends, behind, ends-long, ends-in, reads-eat, reads-joined, reads-stop}
+use Rattle.lexer.specs.declared.lexed.Refusal.the-variants.{BadExponentPart}
+use Rattle.lexer.specs.declared.lexed.Lexed.{Lexed}
+use Rattle.lexer.specs.declared.lexed.Lexed.the-variants.{Refused}
+use Rattle.lexer.specs.declared.digits.Digits.the-variants.{Read, Bad}
+use Rattle.lexer.specs.Eaten.{cursor, groups}
+use Rattle.lexer.specs.Places.{Group, Exponent}
+use Rattle.lexer.specs.Values.{Lexes}
+use Rattle.lexer.proofs.SpanLaws.{part-long, init-part, only-any, first-in, group-start}
+use Rattle.lexer.proofs.GroupLaws.{endOf, groups-read}
+use Rattle.lexer.proofs.DigitLaws.{Run, After, Stuck, digits-after, digits-stuck}
+use Rattle.lexer.proofs.NumberLaws.{span-lexes}
+
+exponent-run : Run D any (behind "1e5") (behind "1e_") 21
+unfolding behind rules operators isDigit isHexdigit isIdentifierStart isIdentifierContinue isBlank
+exponent-run = record { digit = refl; line = refl; back = refl; stop = refl; rule = refl; digits-in = refl; line-in = refl; apart = refl }
+
+-- the exponent, behind its `e` and sign
+module _ {s : List ℕ} {from at d n : ℕ} (p : Exponent s from at) (f : d ≡ moved at s) (g : n ≡ optional (char "+" or char "-") d s) where
+  next : d ≡ at + 1
+  next = f ∙ moved-one (char "e" or char "E") s at (p .e)
+
+  e-reads : Reads s from d (behind "1e")
+  e-reads = rw f (p .reads)
+
+  signed : sees (char "+" or char "-") (drop d s) ≡ true → Reads s from n (behind "1e+")
+  unfolding behind rules operators isDigit isHexdigit isIdentifierStart isIdentifierContinue isBlank
+  signed h = reads-eat e-reads (char "+" or char "-") (behind "1e+") refl h (g ∙ optional-one _ s d h ∙ sym (moved-one _ s d h))
+
+  unsigned : sees (char "+" or char "-") (drop d s) ≡ false → n ≡ d
+  unsigned h = g ∙ optional-none _ s d h
+
+  exponent-group : Group D s from n n
+  unfolding isDigit
+  exponent-group =
+      let o = p .ordered in
+      split (sees (char "+" or char "-") (drop d s))
+      (λ h. rw (g ∙ optional-one _ s d h) (group-start D s from d (e-reads .ordered) (char "+" or char "-") refl h))
+      (λ h. rw (unsigned h ∙ next) (group-start D s from at o (char "e" or char "E") refl (p .e)))
+
+  -- something of a digit run follows
+  exponent-digits : sees (D or char "_") (drop n s) ≡ true → Reads s from n (behind "1e5")
+  unfolding behind rules operators isDigit isHexdigit isIdentifierStart isIdentifierContinue isBlank
+  exponent-digits h =
+      split (sees (char "+" or char "-") (drop d s))
+      (λ k. either (λ x. reads-joined (signed k) (behind "1e5") D (behind "1e5") refl x) (λ x. reads-joined (signed k) (behind "1e5") (char "_") (behind "1e_") refl x))
+      (λ k. let q : Reads s from n (behind "1e") = rw (unsigned k) e-reads in
+      either (λ x. reads-joined q (behind "1e5") D (behind "1e5") refl x) (λ x. reads-joined q (behind "1e5") (char "_") (behind "1e_") refl x))
+    where
+      either : {A : Type 0} → (sees D (drop n s) ≡ true → A) → (sees (char "_") (drop n s) ≡ true → A) → A
+      either x y = split (sees D (drop n s)) x (λ m. y (or-other D (char "_") (drop n s) h m))
+
+  -- or nothing
+  exponent-none : sees D (drop n s) ≡ false → sees (char "_") (drop n s) ≡ false → Ends s from n 24
+  unfolding behind rules operators isDigit isHexdigit isIdentifierStart isIdentifierContinue isBlank
+  exponent-none x y =
+      split (sees (char "+" or char "-") (drop d s))
+      (λ h. reads-stop (signed h) (D or char "_") 24 refl refl (misses-or _ _ _ x y))
+      (λ h. let e = unsigned h in
+      let q : Reads s from n (behind "1e") = rw e e-reads in
+      reads-stop q (D or char "_" or char "+" or char "-") 24 refl refl (misses-or _ _ _ x (misses-or _ _ _ y (rw e h))))
+
+  exponent-empty : sees (D or char "_") (drop n s) ≡ false → groups D n n (drop n s) ≡ Read (cursor n)
+  exponent-empty h = groups-read D n n (drop n s) (or-left D (char "_") (drop n s) h) (or-right D (char "_") (drop n s) h)
+
+  pub exponent-stuck : {k e : ℕ} → Bad (cursor k) (cursor e) ≡ groups D n n (drop n s) → Stuck D s from n k e 21
+  exponent-stuck b =
+      split (sees (D or char "_") (drop n s))
+      (λ h. digits-stuck exponent-run s from (exponent-digits h) (only-any s from n) exponent-group b)
+      (λ h. absurd (let z = b ∙ exponent-empty h in let y : _≡_ {A = Bool} true false = cc in true≢false y))
+
+  module _ {e : ℕ} (b : Read (cursor e) ≡ groups D n n (drop n s)) where
+    pub exponent-after : (n ≡ e → ⊥) → After D any s from n e (behind "1e5")
+    exponent-after k =
+        split (sees (D or char "_") (drop n s))
+        (λ h. digits-after exponent-run s from (exponent-digits h) (only-any s from n) exponent-group b)
+        (λ h. absurd (k (sym (ap endOf (b ∙ exponent-empty h)))))
+
+    exponent-missing : n ≡ e → Ends s from n 24
+    exponent-missing k =
+        split (sees (D or char "_") (drop n s))
+        (λ h. let a = digits-after exponent-run s from (exponent-digits h) (only-any s from n) exponent-group b in
+        absurd (true≢false (sym h ∙ misses-or D (char "_") (drop n s) (rw k (a .digit)) (rw k (a .line)))))
+        (λ h. exponent-none (or-left D (char "_") (drop n s) h) (or-right D (char "_") (drop n s) h))
+
+    first-e : {i : ℕ} → at < i → i ≤ length s → first (oneOf "eE") (part s from i) ≡ at - from
+    unfolding isDigit
+    first-e {i} l h =
+        first-in (D or oneOf "_.") (oneOf "eE") refl s from at i (p .ordered) l h (p .digits)
+        (inside-sees (char "e" or char "E") (oneOf "eE") refl (drop at s) (p .e))
+
+    up-sign : at < n
+    up-sign = let m = next in split (sees (char "+" or char "-") (drop d s)) (λ h. omega (arith, g, optional-one _ s d h)) (λ h. omega (arith, unsigned h))
+
+    pub exponent-missing-lexed : n ≡ e → (r : Lexed) → r ≡ Refused BadExponentPart at (e - at) (cursor from) → Lexes s from r
+    unfolding rules answer
+    exponent-missing-lexed k r f =
+        let x = exponent-missing k in
+        let l = ends-long x in
+        let o = p .ordered in
+        let u = up-sign in
+        let j = first-e u (ends-in x) in
+        span-lexes x BadExponentPart _ _ refl _ _ (omega arith) (omega arith) r f
+
+    module _ (k : n ≡ e → ⊥) where
+      exponent-word : sees S (drop e s) ≡ true → Ends s from (moved e s) 25
+      unfolding behind rules operators isDigit isHexdigit isIdentifierStart isIdentifierContinue isBlank
+      exponent-word h =
+          let a = exponent-after k in
+          reads-stop (reads-eat (a .reads) (S except char "_") (behind "1e5a") refl (except-sees S _ _ h (a .line)) refl) none 25 refl refl (misses-none _)
+
+      pub exponent-word-lexed : sees S (drop e s) ≡ true → (r : Lexed) → r ≡ Refused BadExponentPart at (e - at) (cursor from) → Lexes s from r
+      unfolding rules answer
+      exponent-word-lexed h r f =
+          let x = exponent-word h in
+          let o = p .ordered in
+          let u = up-sign in
+          let v = exponent-after k .up in
+          let l = seen-in S s e h in
+          let m = moved-one S s e h in
+          let z = init-part s from e (omega arith) (moved e s) m l in
+          let w : length (init (part s from (moved e s))) ≡ e - from = rw z (part-long s from e (omega arith) (omega arith)) in
+          let j = first-e {i = moved e s} (omega arith) (omega arith) in
+          span-lexes x BadExponentPart _ _ refl _ _ (omega arith) (omega arith) r f
+
+      pub exponent-ends : sees S (drop e s) ≡ false → Ends s from e 9
+      unfolding behind rules operators isDigit isHexdigit isIdentifierStart isIdentifierContinue isBlank
+      exponent-ends h = let a = exponent-after k in reads-stop (a .reads) (D or S) 9 refl refl (misses-or _ _ _ (a .digit) h)

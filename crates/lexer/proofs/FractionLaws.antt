@@ -1,0 +1,123 @@
+-- A dot behind digits or before them, and the digits behind it. Assumes nothing.
+use Prim.Native.Nat.{ℕ, _-_}
+use native.Mathlib.Omega.{arith}
+use mathlib.Core.Path.{_≡_, refl, _∙_}
+use mathlib.Core.Bool.{true, false}
+use mathlib.Core.List.{List}
+use lib.ListN.{length, drop}
+use Rattle.words.specs.Bytes.{isDigit, isHexdigit, isIdentifierStart, isIdentifierContinue, isBlank}
+use Rattle.grammar.specs.Form.{none, D, S, _or_, _except_, oneOf}
+use Rattle.grammar.specs.Classes.{operators, rules}
+use Rattle.grammar.specs.Answers.{first, init, answer}
+use Rattle.grammar.specs.Runs.{char, sees, part, moved}
+use Rattle.grammar.proofs.Seen.{misses-none, misses-or, inside-sees, except-sees}
+use Rattle.grammar.proofs.Seen.{moved-one, seen-in}
+use Rattle.grammar.proofs.Reading.{Reads, Ends, behind, begin, reads-eat, reads-joined, reads-stop}
+use Rattle.lexer.specs.declared.lexed.Refusal.the-variants.{BadFractionalPart}
+use Rattle.lexer.specs.declared.lexed.Lexed.{Lexed}
+use Rattle.lexer.specs.declared.lexed.Lexed.the-variants.{Refused}
+use Rattle.lexer.specs.declared.digits.Digits.the-variants.{Read, Bad}
+use Rattle.lexer.specs.Eaten.{cursor, groups}
+use Rattle.lexer.specs.Places.{At, Only, Group, Dot, Fraction, Exponent}
+use Rattle.lexer.specs.Values.{Lexes}
+use Rattle.lexer.proofs.SpanLaws.{part-long, init-part, only-none, only-snoc, only-inside, first-in, group-start}
+use Rattle.lexer.proofs.DigitLaws.{Run, After, Stuck, digits-after, digits-stuck}
+use Rattle.lexer.proofs.NumberLaws.{span-lexes, wordStart}
+
+fraction-run : Run D (D or oneOf "_.") (behind "1.5") (behind "1.5_") 21
+unfolding behind rules operators isDigit isHexdigit isIdentifierStart isIdentifierContinue isBlank
+fraction-run = record { digit = refl; line = refl; back = refl; stop = refl; rule = refl; digits-in = refl; line-in = refl; apart = refl }
+
+-- the dot behind its digits
+module _ {s : List ℕ} {from at d : ℕ} (p : Dot s from at) (f : d ≡ moved at s) where
+  dot-reads : Reads s from d (behind "1.")
+  unfolding behind rules operators isDigit isHexdigit isIdentifierStart isIdentifierContinue isBlank
+  dot-reads = reads-eat (p .reads) (char ".") (behind "1.") refl (p .dot) f
+
+  pub dot-fraction : sees D (drop d s) ≡ true → Fraction s from at d
+  unfolding behind rules operators isDigit isHexdigit isIdentifierStart isIdentifierContinue isBlank
+  dot-fraction h = record {
+    next = f ∙ moved-one (char ".") s at (p .dot);
+    ordered = p .reads .ordered;
+    dot = p .dot;
+    reads = reads-joined dot-reads (behind "1.5") D (behind "1.5") refl h;
+    digits = p .digits;
+  }
+
+  pub dot-e : sees (char "e" or char "E") (drop d s) ≡ true → Exponent s from d
+  unfolding behind rules operators isDigit isHexdigit isIdentifierStart isIdentifierContinue isBlank
+  dot-e h =
+      let o = p .reads .ordered in
+      let n = f ∙ moved-one (char ".") s at (p .dot) in
+      record {
+        ordered = dot-reads .ordered;
+        e = h;
+        reads = reads-eat dot-reads (char "e" or char "E") (behind "1e") refl h refl;
+        digits = rw n (only-snoc (D or oneOf "_.") s from at o (char ".") refl (p .dot) (only-inside (D or oneOf "_") s from at o (D or oneOf "_.") refl (p .digits)));
+      }
+
+  pub dot-ends : sees D (drop d s) ≡ false → sees (char "e" or char "E") (drop d s) ≡ false → Ends s from d 9
+  unfolding behind rules operators isDigit isHexdigit isIdentifierStart isIdentifierContinue isBlank
+  dot-ends h n = reads-stop dot-reads (D or char "e" or char "E") 9 refl refl (misses-or _ _ _ h n)
+
+-- a dot with no digits before it
+pub first-fraction : (s : List ℕ) (from d : ℕ) → At (char ".") from s → d ≡ moved from s → sees D (drop d s) ≡ true → Fraction s from from d
+unfolding behind rules operators isDigit isHexdigit isIdentifierStart isIdentifierContinue isBlank
+first-fraction s from d h f k = record {
+  next = f ∙ moved-one (char ".") s from h;
+  ordered = omega arith;
+  dot = h;
+  reads = reads-joined (reads-eat (begin s from) (char ".") (behind ".") refl h f) (behind "1.5") D (behind "1.5") refl k;
+  digits = only-none (D or oneOf "_") s from;
+}
+
+-- the digits behind a dot
+module _ {s : List ℕ} {from dot at : ℕ} (p : Fraction s from dot at) where
+  through-dot : Only (D or oneOf "_.") s from at
+  unfolding isDigit
+  through-dot =
+      rw (p .next)
+      (only-snoc (D or oneOf "_.") s from dot (p .ordered) (char ".") refl (p .dot)
+      (only-inside (D or oneOf "_") s from dot (p .ordered) (D or oneOf "_.") refl (p .digits)))
+
+  fraction-group : Group D s from at at
+  unfolding isDigit
+  fraction-group = rw (p .next) (group-start D s from dot (p .ordered) (char ".") refl (p .dot))
+
+  pub fraction-stuck : {g e : ℕ} → Bad (cursor g) (cursor e) ≡ groups D at at (drop at s) → Stuck D s from at g e 21
+  fraction-stuck b = digits-stuck fraction-run s from (p .reads) through-dot fraction-group b
+
+  pub fraction-after : {e : ℕ} → Read (cursor e) ≡ groups D at at (drop at s) → After D (D or oneOf "_.") s from at e (behind "1.5")
+  fraction-after b = digits-after fraction-run s from (p .reads) through-dot fraction-group b
+
+  -- and what follows them
+  module _ {e : ℕ} (a : After D (D or oneOf "_.") s from at e (behind "1.5")) where
+    pub fraction-e : sees (char "e" or char "E") (drop e s) ≡ true → Exponent s from e
+    unfolding behind rules operators isDigit isHexdigit isIdentifierStart isIdentifierContinue isBlank
+    fraction-e h = record { ordered = a .reads .ordered; e = h; reads = reads-eat (a .reads) (char "e" or char "E") (behind "1e") refl h refl; digits = a .only }
+
+    module _ (m : sees (char "e" or char "E") (drop e s) ≡ false) where
+      fraction-word : sees S (drop e s) ≡ true → Ends s from (moved e s) 23
+      unfolding behind rules operators isDigit isHexdigit isIdentifierStart isIdentifierContinue isBlank
+      fraction-word h =
+          reads-stop (reads-eat (a .reads) wordStart (behind "1.5a") refl (except-sees S _ _ h (misses-or _ _ _ (a .line) m)) refl) none 23 refl refl (misses-none _)
+
+      pub fraction-word-lexed : sees S (drop e s) ≡ true → (r : Lexed) → r ≡ Refused BadFractionalPart dot (e - dot) (cursor from) → Lexes s from r
+      unfolding rules answer isDigit
+      fraction-word-lexed h r f =
+          let x = fraction-word h in
+          let o = p .ordered in
+          let u = a .up in
+          let q = p .next in
+          let l = seen-in S s e h in
+          let n = moved-one S s e h in
+          let z = init-part s from e (omega arith) (moved e s) n l in
+          let k : length (init (part s from (moved e s))) ≡ e - from = rw z (part-long s from e (omega arith) (omega arith)) in
+          let j : first (oneOf ".") (part s from (moved e s)) ≡ dot - from =
+          first-in (D or oneOf "_") (oneOf ".") refl s from dot (moved e s) o (omega arith) (omega arith) (p .digits)
+          (inside-sees (char ".") (oneOf ".") refl (drop dot s) (p .dot)) in
+          span-lexes x BadFractionalPart _ _ refl _ _ (omega arith) (omega arith) r f
+
+      pub fraction-ends : sees S (drop e s) ≡ false → Ends s from e 9
+      unfolding behind rules operators isDigit isHexdigit isIdentifierStart isIdentifierContinue isBlank
+      fraction-ends h = reads-stop (a .reads) (D or S) 9 refl refl (misses-or _ _ _ (a .digit) h)
