@@ -15,4 +15,5 @@ pub mod TextLaws
 pub mod Seen
 pub mod Walk
 pub mod Reading
+pub mod Places
 pub mod PageLaws

@@ -16,7 +16,7 @@ use Rattle.grammar.proofs.Reading.{Reads, Ends, reads-eat, reads-joined, reads-
 use Rattle.lexer.specs.declared.digits.Digits.{Digits}
 use Rattle.lexer.specs.declared.digits.Digits.the-variants.{Read, Bad}
 use Rattle.lexer.specs.Eaten.{cursor, groups}
-use Rattle.lexer.specs.Places.{Only, Group}
+use Rattle.grammar.proofs.Places.{Only, Group}
 use Rattle.lexer.proofs.SpanLaws.{only-snoc, group-digit, group-start}
 
 -- what digits of t and `_` between them do: digits lead back to q, `_` to u, from where a digit leads back and nothing else goes on;

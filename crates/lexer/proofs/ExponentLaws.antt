@@ -19,7 +19,7 @@ use Rattle.lexer.specs.declared.lexed.Lexed.{Lexed}
 use Rattle.lexer.specs.declared.lexed.Lexed.the-variants.{Refused}
 use Rattle.lexer.specs.declared.digits.Digits.the-variants.{Read, Bad}
 use Rattle.lexer.specs.Eaten.{cursor, groups}
-use Rattle.lexer.specs.Places.{Group, Exponent}
+use Rattle.grammar.proofs.Places.{Group, Exponent}
 use Rattle.lexer.specs.Values.{Lexes}
 use Rattle.lexer.proofs.SpanLaws.{part-long, init-part, only-any, first-in, group-start}
 use Rattle.lexer.proofs.GroupLaws.{endOf, groups-read}

@@ -18,7 +18,7 @@ use Rattle.lexer.specs.declared.lexed.Lexed.{Lexed}
 use Rattle.lexer.specs.declared.lexed.Lexed.the-variants.{Refused}
 use Rattle.lexer.specs.declared.digits.Digits.the-variants.{Read, Bad}
 use Rattle.lexer.specs.Eaten.{cursor, groups}
-use Rattle.lexer.specs.Places.{At, Only, Group, Dot, Fraction, Exponent}
+use Rattle.grammar.proofs.Places.{At, Only, Group, Dot, Fraction, Exponent}
 use Rattle.lexer.specs.Values.{Lexes}
 use Rattle.lexer.proofs.SpanLaws.{part-long, init-part, only-none, only-snoc, only-inside, first-in, group-start}
 use Rattle.lexer.proofs.DigitLaws.{Run, After, Stuck, digits-after, digits-stuck}

@@ -20,7 +20,7 @@ use Rattle.lexer.specs.declared.lexed.Lexed.the-variants.{Refused}
 use Rattle.lexer.specs.declared.digits.Digits.{Digits}
 use Rattle.lexer.specs.declared.digits.Digits.the-variants.{Read, Bad}
 use Rattle.lexer.specs.Eaten.{cursor, groups, hexGroups}
-use Rattle.lexer.specs.Places.{Hex}
+use Rattle.grammar.proofs.Places.{Hex}
 use Rattle.lexer.specs.Values.{Lexes}
 use Rattle.lexer.proofs.SpanLaws.{part-long, init-part, only-any}
 use Rattle.lexer.proofs.GroupLaws.{endOf, firstOf, groups-read, hex-groups, hex-empty}

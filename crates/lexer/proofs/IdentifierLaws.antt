@@ -19,7 +19,7 @@ use Rattle.lexer.specs.declared.lexed.Refusal.the-variants.{Unrecognized
 use Rattle.lexer.specs.declared.lexed.Lexed.{Lexed}
 use Rattle.lexer.specs.declared.lexed.Lexed.the-variants.{Token, Refused}
 use Rattle.lexer.specs.Eaten.{cursor}
-use Rattle.lexer.specs.Places.{At}
+use Rattle.grammar.proofs.Places.{At}
 use Rattle.lexer.specs.Values.{Lexes}
 use Rattle.lexer.proofs.EatLaws.{over-more}
 use Rattle.lexer.proofs.AnswerLaws.{lexes, token-lexes}

@@ -1,7 +1,7 @@
 -- The dispatch: by the first byte. Assumes nothing.
 use Prim.Native.Nat.{ℕ, _+_, _-_, _≤_, _<_}
 use native.Mathlib.Omega.{arith}
-use mathlib.Core.Path.{_≡_, refl, sym, _∙_, ap}
+use mathlib.Core.Path.{_≡_, refl, sym, _∙_, ap, subst}
 use mathlib.Core.Bool.{Bool, true, false, true≢false}
 use mathlib.Core.List.{List, [], _∷_}
 use mathlib.Core.Logic.{inl, inr}
@@ -23,7 +23,7 @@ use Rattle.lexer.specs.declared.lexed.Refusal.the-variants.{OffsetPastEn
 use Rattle.lexer.specs.declared.lexed.Lexed.{Lexed}
 use Rattle.lexer.specs.declared.lexed.Lexed.the-variants.{Token, End, Refused}
 use Rattle.lexer.specs.Eaten.{cursor, head}
-use Rattle.lexer.specs.Places.{At, isLater}
+use Rattle.grammar.proofs.Places.{At}
 use Rattle.lexer.specs.Values.{Lexes}
 use Rattle.lexer.proofs.EatLaws.{head-sees}
 use Rattle.lexer.proofs.OperatorLaws.{follow, isOperator, isColon, operator-lexed}
@@ -41,8 +41,8 @@ end-lexed s at h e =
     (λ l. let k = ltb-false at (length s) l in inr (inl (omega arith, refl)))
 
 -- the byte that is seen
-pub byte-at : (t : Set) (k b : ℕ) (l : List ℕ) → Byte b ≡ head l → b ≡ k → holds t k ≡ true → sees t l ≡ true
-byte-at t k b l e f h = sym (head-sees t b l e) ∙ ap (holds t) f ∙ h
+pub key-seen : (k b : ℕ) (l : List ℕ) → sees (byte b) l ≡ true → b ≡ k → sees (byte k) l ≡ true
+key-seen k b l h e = subst (λ (n : ℕ). sees (byte n) l ≡ true) e h
 
 pub byte-seen : (b : ℕ) (l : List ℕ) → Byte b ≡ head l → sees (byte b) l ≡ true
 byte-seen b l e = sym (head-sees (byte b) b l e) ∙ eq-eqb b b refl
@@ -77,9 +77,6 @@ apart-holds b (k ∷ l) a = rw (ne-eqb b k (a .1), apart-holds b l (a .0))
 abbrev named : List ℕ
 named = bytes ":#$?@][.`\"'~&,|!><=%/*+;)(-"
 
-pub later : (b : ℕ) → isBlank b ≡ false → Apart b named → isLater b ≡ true
+pub later : (b : ℕ) → isBlank b ≡ false → Apart b named → holds (D or S or U) b ≡ true
 unfolding isDigit isIdentifierStart isBlank
 later b n a = inside-holds (no (blank or among named)) (D or S or U) refl b (rw (n, apart-holds b named a))
-
-pub unknown : (b : ℕ) → isLater b ≡ true → isDigit b ≡ false → isIdentifierStart b ≡ false → holds U b ≡ true
-unknown b h d i = rw (d, i) at h

@@ -25,7 +25,7 @@ use Rattle.lexer.specs.declared.lexed.Lexed.{Lexed}
 use Rattle.lexer.specs.declared.lexed.Lexed.the-variants.{Token, Refused}
 use Rattle.lexer.specs.declared.lexed.Refusal.the-variants.{ExpectedEqualsSign}
 use Rattle.lexer.specs.Eaten.{cursor}
-use Rattle.lexer.specs.Places.{At}
+use Rattle.grammar.proofs.Places.{At}
 use Rattle.lexer.specs.Values.{Lexes}
 use Rattle.lexer.proofs.EatLaws.{Reached}
 use Rattle.lexer.proofs.AnswerLaws.{token-lexes, whole-lexes}

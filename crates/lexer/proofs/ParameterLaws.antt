@@ -17,7 +17,7 @@ use Rattle.lexer.specs.declared.lexed.Refusal.the-variants.{Unrecognized
 use Rattle.lexer.specs.declared.lexed.Lexed.{Lexed}
 use Rattle.lexer.specs.declared.lexed.Lexed.the-variants.{Token, Refused}
 use Rattle.lexer.specs.Eaten.{cursor}
-use Rattle.lexer.specs.Places.{Named}
+use Rattle.grammar.proofs.Places.{Named}
 use Rattle.lexer.specs.Values.{Lexes}
 use Rattle.lexer.proofs.AnswerLaws.{token-lexes, whole-lexes}
 
@@ -96,15 +96,15 @@ module _ {s : List ℕ} {from at : ℕ} (p : Named s from at) where
   unfolding behind rules operators isDigit isHexdigit isIdentifierStart isIdentifierContinue isBlank
   name-ends h = reads-no-pair (p .reads) (behind "$a:") (C or char "(") 11 refl refl refl (misses-or _ _ _ (p .byte) h) (p .pair)
 
-  module _ (h : sees (char "(") (drop at s) ≡ true) {d e : ℕ} (f : d ≡ moved at s) (g : e ≡ over (no (byte 41 or blank)) d s) where
+  module _ (h : sees (char "(") (drop at s) ≡ true) {d e : ℕ} (f : d ≡ moved at s) (g : e ≡ over (no (char ")" or blank)) d s) where
     suffix-reads : Reads s from e (behind "$a(")
     unfolding behind rules operators isDigit isHexdigit isIdentifierStart isIdentifierContinue isBlank
-    suffix-reads = reads-while (reads-eat (p .reads) (char "(") (behind "$a(") refl h f) (no (byte 41 or blank)) refl g
+    suffix-reads = reads-while (reads-eat (p .reads) (char "(") (behind "$a(") refl h f) (no (char ")" or blank)) refl g
 
     pub suffix-open : sees (char ")") (drop e s) ≡ false → Ends s from e 20
     unfolding behind rules operators isDigit isHexdigit isIdentifierStart isIdentifierContinue isBlank
     suffix-open n =
-        reads-stop suffix-reads (char ")" or no (byte 41 or blank)) 20 refl refl (misses-or _ _ _ n (over-stops _ _ _ _ g))
+        reads-stop suffix-reads (char ")" or no (char ")" or blank)) 20 refl refl (misses-or _ _ _ n (over-stops _ _ _ _ g))
 
     pub suffix-closed : sees (char ")") (drop e s) ≡ true → {i : ℕ} → i ≡ moved e s → Ends s from i 11
     unfolding behind rules operators isDigit isHexdigit isIdentifierStart isIdentifierContinue isBlank

@@ -1,14 +1,14 @@
 -- Strings, quoted names and blobs. Assumes nothing.
 use Prim.Native.Nat.{ℕ, _-_, _%_}
 use mathlib.Core.Path.{_≡_, refl, sym, subst}
-use mathlib.Core.Bool.{true, false, cond, _&&_, true≢false}
+use mathlib.Core.Bool.{Bool, true, false, cond, _&&_, true≢false}
 use mathlib.Core.List.{List, [], _∷_}
 use lib.Dec.{eqb}
 use lib.ListN.{drop}
 use borrow.Author.Tests.{eqb-true, eqb-false}
 use Rattle.keywords.proofs.Logic.{split}
 use Rattle.words.specs.Bytes.{isDigit, isHexdigit, isIdentifierStart, isIdentifierContinue, isBlank}
-use Rattle.grammar.specs.Form.{none, H, byte, no, _or_, any}
+use Rattle.grammar.specs.Form.{none, H, byte, no, _or_, any, oneOf, holds}
 use Rattle.grammar.specs.Classes.{operators, rules}
 use Rattle.grammar.specs.Answers.{answer}
 use Rattle.grammar.specs.Runs.{char, sees, run, moved, over}
@@ -20,8 +20,8 @@ use Rattle.grammar.proofs.Reading.{reads-while, reads-join, reads-stop, reads-e
 use Rattle.lexer.specs.declared.lexed.Refusal.the-variants.{UnrecognizedToken, UnterminatedLiteral}
 use Rattle.lexer.specs.declared.lexed.Lexed.{Lexed}
 use Rattle.lexer.specs.declared.lexed.Lexed.the-variants.{Token, Refused}
-use Rattle.lexer.specs.Eaten.{cursor}
-use Rattle.lexer.specs.Places.{At, isQuote, quoteKind}
+use Rattle.lexer.specs.Eaten.{cursor, quoteKind}
+use Rattle.grammar.proofs.Places.{At}
 use Rattle.lexer.specs.Values.{Lexes}
 use Rattle.lexer.proofs.EatLaws.{Reached}
 use Rattle.lexer.proofs.AnswerLaws.{token-lexes, whole-lexes}
@@ -36,6 +36,9 @@ outQuote q = after (start rules) (q ∷ q ∷ [])
 -- the rule of what q closes
 abbrev closed : ℕ → ℕ
 closed q = cond (eqb q 39) 6 7
+
+abbrev pub isQuote : ℕ → Bool
+isQuote q = holds (oneOf "'\"`") q
 
 record Quote (q : ℕ) : Type 0 where
   first : along (start rules) (q ∷ []) ≡ true

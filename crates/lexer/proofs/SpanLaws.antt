@@ -12,7 +12,7 @@ use Rattle.grammar.specs.Form.{Set, any, no, holds}
 use Rattle.grammar.specs.Answers.{first, afterLast, init}
 use Rattle.grammar.specs.Runs.{sees, part}
 use Rattle.grammar.proofs.Seen.{inside, inside-holds, seen-in, seen-holds}
-use Rattle.lexer.specs.Places.{Only, Group}
+use Rattle.grammar.proofs.Places.{Only, Group}
 
 -- parts
 module _ (s : List ℕ) (from at : ℕ) (o : from ≤ at) where

@@ -4,6 +4,7 @@ use Prim.Native.Nat.{ℕ, _+_}
 use mathlib.Core.Bool.{cond}
 use mathlib.Core.List.{List, [], _∷_}
 use lib.ListN.{drop}
+use Rattle.keywords.specs.Kinds.{kind}
 use Rattle.words.specs.Bytes.{is}
 use Rattle.grammar.specs.Form.{Set, H, byte, no, holds}
 use Rattle.grammar.specs.Runs.{char, sees, over}
@@ -32,7 +33,7 @@ past b at s =
     let stop = over (no (byte b)) at s in
     cond (sees (byte b) (drop stop s)) (Found (cursor (stop + 1))) (Missed (cursor stop))
 
--- Digits of a set from place i on, in a group that starts at g: a `_` between two digits starts another group, any other is bad.
+-- Digits of a set from place i on, in a group that starts at g: a `_` before a digit starts another group, any other is bad.
 unfoldable pub groups : Set → ℕ → ℕ → List ℕ → Digits
 groups t g i [] = Read (cursor i)
 groups t g i (b ∷ s) =
@@ -42,3 +43,7 @@ groups t g i (b ∷ s) =
 -- Hexadecimal digits, of which one comes before every `_`.
 unfoldable pub hexGroups : ℕ → List ℕ → Digits
 hexGroups i s = cond (sees (char "_") s) (Bad (cursor i) (cursor i)) (groups H i i s)
+
+-- the kind of what a quote closes
+abbrev pub quoteKind : ℕ → ℕ
+quoteKind b = cond (is "'" b) (kind "TK_STRING") (kind "TK_ID")

@@ -8,7 +8,7 @@ use words::bytes::is_identifier_start;
 ghost use mathlib.Core.Path.{_≡_};
 ghost use lib.ListN.{drop};
 ghost use Rattle.grammar.specs.Form.{D, S, C, blank, byte, no, _or_};
-ghost use Rattle.grammar.specs.Runs.{seesPair, sees, moved, optional, over};
+ghost use Rattle.grammar.specs.Runs.{char, sees, seesPair, moved, optional, over};
 ghost use Rattle.lexer.specs.Eaten.{head, hexdigit, past};
 
 pub struct Cursor {
@@ -215,7 +215,7 @@ impl Cursor {
 
     // The bytes that `(` may hold behind a parameter's name.
     pub(crate) fn eat_while_suffix(self, text: &[u8]) -> Cursor
-        ensures { λ r. ⌜ r .at ≡ over (no (byte 41 or blank)) (self .at) (now (text .entry)) ⌝ }
+        ensures { λ r. ⌜ r .at ≡ over (no (char ")" or blank)) (self .at) (now (text .entry)) ⌝ }
     {
         let mut at = self.at;
         while at < text.len() {

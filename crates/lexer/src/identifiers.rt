@@ -11,7 +11,7 @@ ghost use Rattle.grammar.specs.Form.{S};
 ghost use Rattle.grammar.specs.Classes.{U};
 ghost use Rattle.grammar.specs.Runs.{char};
 ghost use Rattle.grammar.proofs.Reading.{Reads, behind};
-ghost use Rattle.lexer.specs.Places.{At};
+ghost use Rattle.grammar.proofs.Places.{At};
 ghost use Rattle.lexer.specs.Values.{Lexes};
 
 pub(crate) fn eat_blob_or_id(text: &[u8], start: Cursor) -> Lexed

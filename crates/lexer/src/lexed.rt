@@ -3,7 +3,7 @@ use crate::cursor::Cursor;
 ghost use mathlib.Core.Path.{_≡_};
 ghost use Prim.Native.Nat.{_-_, _≤_};
 
-// The Rust's errors, in its order, and the one that document 01 adds.
+// The errors that the Rust's lexer gives, in the order of document 01's numbers, and the one that it adds.
 pub enum Refusal {
     UnrecognizedToken,
     UnterminatedLiteral,

@@ -1,5 +1,5 @@
-// The lexer: `next` gives the longest lexeme at a cursor. Read `cursor` (places in a text), `lexed` (answers), then the parts in the
-// order of the Rust that they are ported from; `next` chooses among them by the first byte.
+// The lexer: `next` gives the longest lexeme at a cursor. Read `cursor` (places in a text) and `lexed` (answers), then in the Rust's order
+// `digits`, `operators`, `quoted`, `numbers`, `parameters` and `identifiers`; `next` chooses among them by the first byte.
 pub mod cursor;
 mod digits;
 mod identifiers;

@@ -34,12 +34,12 @@ use keywords::kinds::TK_RP;
 use keywords::kinds::TK_SEMI;
 use keywords::kinds::TK_STAR;
 use words::bytes::is_blank;
-use words::bytes::is_digit;
-use words::bytes::is_identifier_start;
 ghost use mathlib.Core.Path.{_≡_};
-ghost use mathlib.Core.Bool.{true};
-ghost use Rattle.grammar.specs.Form.{byte};
-ghost use Rattle.lexer.specs.Places.{At, isLater};
+ghost use mathlib.Core.Bool.{false};
+ghost use Rattle.words.specs.Bytes.{isBlank};
+ghost use Rattle.grammar.specs.Form.{D, S, byte, _or_};
+ghost use Rattle.grammar.specs.Classes.{U};
+ghost use Rattle.grammar.proofs.Places.{At};
 ghost use Rattle.lexer.specs.Values.{Lexes};
 
 pub fn next(text: &[u8], cursor: Cursor) -> Lexed
@@ -60,47 +60,54 @@ pub fn next(text: &[u8], cursor: Cursor) -> Lexed
     if is_blank(b) {
         return eat_white_space(text, cursor);
     }
+    eat_lexeme(text, cursor, b)
+}
+
+// By the first byte, which is no blank.
+fn eat_lexeme(text: &[u8], start: Cursor, b: u8) -> Lexed
+    requires { ⌜ At (byte b) (start .at) (now text) × (isBlank b ≡ false) ⌝ }
+    ensures { λ r. ⌜ Lexes (now (text .entry)) (start .at) r ⌝ }
+{
     match b {
-        b'-' => eat_minus_or_comment_or_ptr(text, cursor),
-        b'(' => eat_one_token(text, cursor, TK_LP),
-        b')' => eat_one_token(text, cursor, TK_RP),
-        b';' => eat_one_token(text, cursor, TK_SEMI),
-        b'+' => eat_one_token(text, cursor, TK_PLUS),
-        b'*' => eat_one_token(text, cursor, TK_STAR),
-        b'/' => eat_slash_or_comment(text, cursor),
-        b'%' => eat_one_token(text, cursor, TK_REM),
-        b'=' => eat_eq(text, cursor),
-        b'<' => eat_le_or_ne_or_lshift_or_lt(text, cursor),
-        b'>' => eat_ge_or_gt_or_rshift(text, cursor),
-        b'!' => eat_ne(text, cursor),
-        b'|' => eat_concat_or_bitor(text, cursor),
-        b',' => eat_one_token(text, cursor, TK_COMMA),
-        b'&' => eat_overlap_or_bitand(text, cursor),
-        b'~' => eat_one_token(text, cursor, TK_BITNOT),
-        b'\'' => eat_lit_or_id(text, cursor, b),
-        b'"' => eat_lit_or_id(text, cursor, b),
-        b'`' => eat_lit_or_id(text, cursor, b),
-        b'.' => eat_dot_or_frac(text, cursor),
-        b'[' => eat_one_token(text, cursor, TK_LBRACKET),
-        b']' => eat_one_token(text, cursor, TK_RBRACKET),
-        b'@' => eat_array_contains_or_var(text, cursor),
-        b'?' => eat_numbered_var(text, cursor),
-        b'$' => eat_named_var(text, cursor, cursor.eat(text)),
-        b'#' => eat_illegal(text, cursor),
-        b':' => eat_colon_or_var(text, cursor),
-        _ => eat_number_or_name(text, cursor, b),
+        b'-' => eat_minus_or_comment_or_ptr(text, start),
+        b'(' => eat_one_token(text, start, TK_LP),
+        b')' => eat_one_token(text, start, TK_RP),
+        b';' => eat_one_token(text, start, TK_SEMI),
+        b'+' => eat_one_token(text, start, TK_PLUS),
+        b'*' => eat_one_token(text, start, TK_STAR),
+        b'/' => eat_slash_or_comment(text, start),
+        b'%' => eat_one_token(text, start, TK_REM),
+        b'=' => eat_eq(text, start),
+        b'<' => eat_le_or_ne_or_lshift_or_lt(text, start),
+        b'>' => eat_ge_or_gt_or_rshift(text, start),
+        b'!' => eat_ne(text, start),
+        b'|' => eat_concat_or_bitor(text, start),
+        b',' => eat_one_token(text, start, TK_COMMA),
+        b'&' => eat_overlap_or_bitand(text, start),
+        b'~' => eat_one_token(text, start, TK_BITNOT),
+        b'\'' => eat_lit_or_id(text, start, b),
+        b'"' => eat_lit_or_id(text, start, b),
+        b'`' => eat_lit_or_id(text, start, b),
+        b'.' => eat_dot_or_frac(text, start),
+        b'[' => eat_one_token(text, start, TK_LBRACKET),
+        b']' => eat_one_token(text, start, TK_RBRACKET),
+        b'@' => eat_array_contains_or_var(text, start),
+        b'?' => eat_numbered_var(text, start),
+        b'$' => eat_named_var(text, start, start.eat(text)),
+        b'#' => eat_illegal(text, start),
+        b':' => eat_colon_or_var(text, start),
+        _ => eat_number_or_name(text, start),
     }
 }
 
-// A first byte that is no blank and stands for none of the above.
-fn eat_number_or_name(text: &[u8], start: Cursor, b: u8) -> Lexed
-    requires { ⌜ At (byte b) (start .at) (now text) × (isLater b ≡ true) ⌝ }
+fn eat_number_or_name(text: &[u8], start: Cursor) -> Lexed
+    requires { ⌜ At (D or S or U) (start .at) (now text) ⌝ }
     ensures { λ r. ⌜ Lexes (now (text .entry)) (start .at) r ⌝ }
 {
-    if is_digit(b) {
+    if start.sees_digit(text) {
         return eat_number(text, start);
     }
-    if is_identifier_start(b) {
+    if start.sees_start(text) {
         return eat_blob_or_id(text, start);
     }
     eat_unrecognized(text, start)

@@ -10,7 +10,7 @@ use keywords::kinds::TK_FLOAT;
 use keywords::kinds::TK_INTEGER;
 ghost use Rattle.grammar.specs.Form.{D};
 ghost use Rattle.grammar.specs.Runs.{char};
-ghost use Rattle.lexer.specs.Places.{At, Decimal, Dot, Fraction, Exponent, Hex};
+ghost use Rattle.grammar.proofs.Places.{At, Decimal, Dot, Fraction, Exponent, Hex};
 ghost use Rattle.lexer.specs.Values.{Lexes};
 
 // A dot with no digits before it.

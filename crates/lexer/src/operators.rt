@@ -30,7 +30,7 @@ ghost use Rattle.grammar.specs.Form.{blank};
 ghost use Rattle.grammar.specs.Runs.{char};
 ghost use Rattle.grammar.proofs.Reading.{Reads, behind};
 ghost use Rattle.lexer.specs.Eaten.{cursor};
-ghost use Rattle.lexer.specs.Places.{At};
+ghost use Rattle.grammar.proofs.Places.{At};
 ghost use Rattle.lexer.specs.Values.{Lexes};
 
 pub(crate) fn eat_one_token(text: &[u8], start: Cursor, kind: u32) -> Lexed
@@ -78,6 +78,25 @@ pub(crate) fn eat_slash_or_comment(text: &[u8], start: Cursor) -> Lexed
         return eat_comment(text, start, slash.eat(text));
     }
     token(TK_SLASH, start, slash)
+}
+
+// C-style comments begin with "/*" and extend up to and including the next "*/" or until the end.
+pub(crate) fn eat_comment(text: &[u8], start: Cursor, at: Cursor) -> Lexed
+    requires { ⌜ Reads (now text) (start .at) (at .at) (behind "/*") ⌝ }
+    ensures { λ r. ⌜ Lexes (now (text .entry)) (start .at) r ⌝ }
+{
+    let mut body = at;
+    loop {
+        match body.eat_past(text, b'*') {
+            Past::Missed(end) => return token(TK_NONE, start, end),
+            Past::Found(star) => {
+                if star.sees(text, b'/') {
+                    return token(TK_NONE, start, star.eat(text));
+                }
+                body = star;
+            }
+        }
+    }
 }
 
 pub(crate) fn eat_eq(text: &[u8], start: Cursor) -> Lexed
@@ -160,28 +179,9 @@ pub(crate) fn eat_array_contains_or_var(text: &[u8], start: Cursor) -> Lexed
     requires { ⌜ At (char "@") (start .at) (now text) ⌝ }
     ensures { λ r. ⌜ Lexes (now (text .entry)) (start .at) r ⌝ }
 {
-    let at = start.eat(text);
-    if at.sees(text, b'>') {
-        return token(TK_ARRAY_CONTAINS, start, at.eat(text));
+    let sign = start.eat(text);
+    if sign.sees(text, b'>') {
+        return token(TK_ARRAY_CONTAINS, start, sign.eat(text));
     }
-    eat_named_var(text, start, at)
-}
-
-// C-style comments begin with "/*" and extend up to and including the next "*/" or until the end.
-fn eat_comment(text: &[u8], start: Cursor, at: Cursor) -> Lexed
-    requires { ⌜ Reads (now text) (start .at) (at .at) (behind "/*") ⌝ }
-    ensures { λ r. ⌜ Lexes (now (text .entry)) (start .at) r ⌝ }
-{
-    let mut body = at;
-    loop {
-        match body.eat_past(text, b'*') {
-            Past::Missed(end) => return token(TK_NONE, start, end),
-            Past::Found(star) => {
-                if star.sees(text, b'/') {
-                    return token(TK_NONE, start, star.eat(text));
-                }
-                body = star;
-            }
-        }
-    }
+    eat_named_var(text, start, sign)
 }

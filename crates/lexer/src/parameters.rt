@@ -8,7 +8,7 @@ use keywords::kinds::TK_COLON;
 use keywords::kinds::TK_VARIABLE;
 ghost use Rattle.grammar.specs.Runs.{char};
 ghost use Rattle.grammar.proofs.Reading.{Reads, behind};
-ghost use Rattle.lexer.specs.Places.{At, Named};
+ghost use Rattle.grammar.proofs.Places.{At, Named};
 ghost use Rattle.lexer.specs.Values.{Lexes};
 
 // `?` and digits.

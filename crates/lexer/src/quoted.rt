@@ -10,9 +10,10 @@ use keywords::kinds::TK_ID;
 use keywords::kinds::TK_STRING;
 ghost use mathlib.Core.Path.{_≡_};
 ghost use mathlib.Core.Bool.{true};
-ghost use Rattle.grammar.specs.Form.{byte};
+ghost use Rattle.grammar.specs.Form.{byte, oneOf, holds};
 ghost use Rattle.grammar.proofs.Reading.{Reads, behind};
-ghost use Rattle.lexer.specs.Places.{At, isQuote, quoteKind};
+ghost use Rattle.grammar.proofs.Places.{At};
+ghost use Rattle.lexer.specs.Eaten.{quoteKind};
 ghost use Rattle.lexer.specs.Values.{Lexes};
 
 fn quote_kind(quote: u8) -> u32
@@ -25,7 +26,7 @@ fn quote_kind(quote: u8) -> u32
 }
 
 pub(crate) fn eat_lit_or_id(text: &[u8], start: Cursor, quote: u8) -> Lexed
-    requires { ⌜ At (byte quote) (start .at) (now text) × (isQuote quote ≡ true) ⌝ }
+    requires { ⌜ At (byte quote) (start .at) (now text) × (holds (oneOf "'\"`") quote ≡ true) ⌝ }
     ensures { λ r. ⌜ Lexes (now (text .entry)) (start .at) r ⌝ }
 {
     let mut body = start.eat(text);

@@ -7,11 +7,10 @@ use mathlib.Core.Path.{_∙_, _≡_, sym}
 use lib.ListN.{length}
 use borrow.Author.Needs.{needs}
 use borrow.Author.Tests.{not-false, not-true}
-use Rattle.grammar.proofs.Seen.{moved-up}
 use Rattle.grammar.proofs.Reading.{Reads}
-use Rattle.lexer.specs.Places.{isQuote}
+use Rattle.grammar.proofs.Seen.{moved-up}
 use Rattle.lexer.proofs.EatLaws.{found-past, missed-past, reached-on}
-use Rattle.lexer.proofs.QuotedLaws.{inQuote, open-lexed, quote-again, quote-closed, quote-found, quote-open, quote-opens, quoted-lexed}
+use Rattle.lexer.proofs.QuotedLaws.{inQuote, isQuote, open-lexed, quote-again, quote-closed, quote-found, quote-open, quote-opens, quoted-lexed}
 use Rattle.lexer.proofs.quoted.eat_lit_or_id.Statement.{statement}
 use Rattle.lexer.proofs.quoted.eat_lit_or_id.Tie as tie
 

@@ -5,14 +5,14 @@ use mathlib.Core.Path.{_∙_, _≡_, refl, sym}
 use lib.ListN.{length}
 use borrow.Author.Needs.{needs}
 use borrow.Author.Tests.{eq-eqb, ne-eqb}
-use Rattle.grammar.specs.Form.{_or_, blank, byte, no}
-use Rattle.grammar.specs.Runs.{over}
+use Rattle.grammar.specs.Form.{_or_, blank, no}
+use Rattle.grammar.specs.Runs.{char, over}
 use Rattle.lexer.proofs.EatLaws.{over-end, over-more, over-stop}
 use Rattle.lexer.proofs.cursor.Cursor.eat_while_suffix.Statement.{statement}
 use Rattle.lexer.proofs.cursor.Cursor.eat_while_suffix.Tie as tie
 
 abbrev Inv-loop : tie.InvT-loop
-Inv-loop text at₀ at = over (no (byte 41 or blank)) at₀ text ≡ over (no (byte 41 or blank)) at text
+Inv-loop text at₀ at = over (no (char ")" or blank)) at₀ text ≡ over (no (char ")" or blank)) at text
 
 abbrev μ-loop : tie.MeasureT-loop
 μ-loop text at₀ at = length text - at
@@ -28,7 +28,7 @@ returns c =
     let if1 = c .if1 in
     let loop-test = c .before .before .loop-test in
     let loop = c .before .before .before .loop in
-    sym (loop .inv ∙ over-stop (no (byte 41 or blank)) _ (loop .at) (loop-test .taken) (rw (eq-eqb _ 41 (if1 .taken))))
+    sym (loop .inv ∙ over-stop (no (char ")" or blank)) _ (loop .at) (loop-test .taken) (rw (eq-eqb _ 41 (if1 .taken))))
 
 is-blank-requires : tie.Need-is-blank-requires Inv-loop μ-loop
 is-blank-requires c κs = search needs
@@ -40,7 +40,7 @@ returns-2 c =
     let if1 = c .before .before .if1 in
     let loop-test = c .before .before .before .before .loop-test in
     let loop = c .before .before .before .before .before .loop in
-    sym (loop .inv ∙ over-stop (no (byte 41 or blank)) _ (loop .at) (loop-test .taken)
+    sym (loop .inv ∙ over-stop (no (char ")" or blank)) _ (loop .at) (loop-test .taken)
     (rw (ne-eqb _ 41 (if1 .left), ← is-blank .ensures, if2 .taken)))
 
 add-at : tie.Need-add-at Inv-loop μ-loop
@@ -56,14 +56,14 @@ loop-again c =
     let if1 = c .before .before .if1 in
     let loop-test = c .before .before .before .before .loop-test in
     let loop = c .before .before .before .before .before .loop in
-    loop .inv ∙ over-more (no (byte 41 or blank)) _ (loop .at) (loop-test .taken)
+    loop .inv ∙ over-more (no (char ")" or blank)) _ (loop .at) (loop-test .taken)
     (rw (ne-eqb _ 41 (if1 .left), ← is-blank .ensures, if2 .left))
 
 returns-3 : tie.Need-returns-3 Inv-loop μ-loop
 returns-3 c =
     let loop-test = c .loop-test in
     let loop = c .before .loop in
-    sym (loop .inv ∙ over-end (no (byte 41 or blank)) _ (loop .at) (loop-test .left))
+    sym (loop .inv ∙ over-end (no (char ")" or blank)) _ (loop .at) (loop-test .left))
 
 pub eat-while-suffix-spec : {M : Type 1} → statement M
 eat-while-suffix-spec =

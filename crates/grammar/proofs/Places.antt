@@ -1,19 +1,15 @@
--- What private functions ask of the place at which they are called; the contract of `next` does not rest on it. `Reads s start at
--- (behind "1e")` of the grammar's Reading.antt says that the lexeme of s from `start` on is found by going on from `at` as if `1e` had been
--- read. Assumes nothing.
+-- Places in a text, as the lexer's private functions ask for them; the contract of `next` does not rest on it. `Reads s start at (behind
+-- "1e")` says that the lexeme of s from `start` on is found by going on from `at` as if `1e` had been read. Assumes nothing.
 use Prim.Native.Nat.{ℕ, _+_, _-_, _≤_, max}
 use mathlib.Core.Path.{_≡_}
-use mathlib.Core.Bool.{Bool, true, false, cond}
+use mathlib.Core.Bool.{true, false}
 use mathlib.Core.List.{List}
 use lib.ListN.{drop}
-use Rattle.keywords.specs.Kinds.{kind}
 use Rattle.keywords.proofs.Logic.{every}
-use Rattle.words.specs.Bytes.{is}
-use Rattle.grammar.specs.Form.{Set, D, H, S, C, no, _or_, oneOf, holds}
-use Rattle.grammar.specs.Classes.{U}
+use Rattle.grammar.specs.Form.{Set, D, H, C, no, _or_, oneOf, holds}
 use Rattle.grammar.specs.Answers.{afterLast}
 use Rattle.grammar.specs.Runs.{char, sees, seesPair, part, moved}
 use Rattle.grammar.proofs.Reading.{Reads, behind}
 
 -- a byte of the set stands at the place
 abbrev pub At : Set → ℕ → List ℕ → Type 0
@@ -22,16 +18,6 @@ At t at s = sees t (drop at s) ≡ true
 -- only bytes of the set stand from a place to before another
 abbrev pub Only : Set → List ℕ → ℕ → ℕ → Type 0
 Only t s from to = every (holds t) (part s from to) ≡ true
-
-abbrev pub isQuote : ℕ → Bool
-isQuote b = holds (oneOf "'\"`") b
-
-abbrev pub quoteKind : ℕ → ℕ
-quoteKind b = cond (is "'" b) (kind "TK_STRING") (kind "TK_ID")
-
--- a byte that starts a number or a word, or nothing
-abbrev pub isLater : ℕ → Bool
-isLater b = holds (D or S or U) b
 
 -- Of a lexeme's digits before a place, the last group starts at g: behind the last byte that is no digit, or behind the first byte.
 abbrev pub Group : Set → List ℕ → ℕ → ℕ → ℕ → Type 0
