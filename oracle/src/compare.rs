@@ -14,7 +14,7 @@ use families::Family;
 use random::Random;
 use std::io::{self, Error, Read, Write};
 use std::path::Path;
-use std::process::{Command, Stdio};
+use std::process::{Command, ExitStatus, Stdio};
 use std::sync::atomic::{AtomicU64, Ordering};
 use std::sync::Mutex;
 use std::thread;
@@ -34,16 +34,15 @@ pub fn compare(out: &mut impl Write, args: &[String]) -> io::Result<bool> {
     for (place, family) in families::all(count, &corpus).iter().enumerate() {
         let asked = Asked { family, place: place as u64, seed, program };
         let difference = asked.all()?;
-        let differences = u8::from(difference.is_some());
-        writeln!(out, "{:<24} {:>10} texts, {differences} differences", family.name, family.count)?;
-        out.flush()?;
         if let Some((index, told)) = difference {
-            writeln!(out, "the first: text {index} of '{}', seed {seed}\n{told}", family.name)?;
+            writeln!(out, "a difference: text {index} of '{}', seed {seed}\n{told}", family.name)?;
             return Ok(false);
         }
+        writeln!(out, "{:<24} {:>10} texts, no difference", family.name, family.count)?;
+        out.flush()?;
         texts += family.count;
     }
-    writeln!(out, "{:<24} {texts:>10} texts, 0 differences", "total")?;
+    writeln!(out, "{:<24} {texts:>10} texts, no difference", "total")?;
     Ok(true)
 }
 
@@ -98,8 +97,12 @@ impl Asked<'_> {
             print_walk(&mut expected, offset, &text)?;
             ends.push((records.len(), expected.len()));
         }
-        let answers = ask(self.program, &records)?;
-        Ok(first_difference(&expected, &answers).map(|place| {
+        let (answers, status) = ask(self.program, &records)?;
+        let difference = first_difference(&expected, &answers);
+        if difference.is_none() && !status.success() {
+            return Err(Error::other(format!("the program ended with {status}")));
+        }
+        Ok(difference.map(|place| {
             let index = ends.partition_point(|&(_, end)| end <= place).min(ends.len() - 1) - 1;
             let ((record, start), (record_end, end)) = (ends[index], ends[index + 1]);
             let told = tell(&records[record..record_end], &expected[start..end], &answers[start.min(answers.len())..]);
@@ -108,8 +111,8 @@ impl Asked<'_> {
     }
 }
 
-/// What the program writes when it is given the records.
-fn ask(program: &[String], records: &[u8]) -> io::Result<Vec<u8>> {
+/// What the program writes when it is given the records, and how it ends.
+fn ask(program: &[String], records: &[u8]) -> io::Result<(Vec<u8>, ExitStatus)> {
     let (name, args) = program.split_first().ok_or_else(|| Error::other("no program is named"))?;
     let mut child = Command::new(name).args(args).stdin(Stdio::piped()).stdout(Stdio::piped()).spawn()?;
     let (mut stdin, mut stdout) = (child.stdin.take().expect("piped"), child.stdout.take().expect("piped"));
@@ -119,11 +122,7 @@ fn ask(program: &[String], records: &[u8]) -> io::Result<Vec<u8>> {
         scope.spawn(move || stdin.write_all(records));
         stdout.read_to_end(&mut answers)
     })?;
-    let status = child.wait()?;
-    if !status.success() {
-        eprintln!("the program ended with {status}");
-    }
-    Ok(answers)
+    Ok((answers, child.wait()?))
 }
 
 /// The first place at which two rows of bytes part.

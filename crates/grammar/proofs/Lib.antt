@@ -14,6 +14,7 @@ pub mod Equal
 pub mod TextLaws
 pub mod Seen
 pub mod Walk
+pub mod RulePlaces
 pub mod Reading
 pub mod Places
 pub mod PageLaws

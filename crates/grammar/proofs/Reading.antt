@@ -16,14 +16,14 @@ use Rattle.grammar.specs.Form.{Set, byte, no, _or_}
 use Rattle.grammar.specs.Classes.{operators, rules}
 use Rattle.grammar.specs.Answers.{answer}
 use Rattle.grammar.specs.Longest.{Gives}
-use Rattle.grammar.specs.Runs.{char, sees, run, seesPair, part, moved, over}
+use Rattle.grammar.specs.Runs.{char, sees, runLength, seesPair, part, moved, over}
 use Rattle.grammar.proofs.States.{State, ruleAt, start, after, met}
 use Rattle.grammar.proofs.Model.{Found, nothing, found, here, onward, scan, given, Right, scan-right}
 use Rattle.grammar.proofs.Lexemes.{next-gives}
 use Rattle.grammar.proofs.Theorems.{sound}
 use Rattle.grammar.proofs.Seen.{moved-one, seen-cons, seen-holds}
 use Rattle.grammar.proofs.Walk.{ends, goes, meets, isFound, scan-found, ends-step, ends-run, joins, scan-join, scan-stop, alternate}
-use Rattle.grammar.proofs.Walk.{ends-alternate, scan-joined, pairs, scan-pair, twice, scan-no-pair, unpaired, along, ends-along}
+use Rattle.grammar.proofs.Walk.{ends-alternate, scan-joined, paired, scan-pair, twice, scan-no-pair, unpaired, along, ends-along}
 
 -- what is left of the rules behind a text
 unfoldable pub behind : String → State
@@ -65,7 +65,7 @@ module _ {s : List ℕ} {from at : ℕ} {q : State} (p : Reads s from at q) wher
       record {
         ordered = omega arith;
         same = p .same ∙ ends-run q t (and-left (goes q t q) (meets q) g) (and-right (goes q t q) (meets q) g) (drop at s) at
-            ∙ ap (λ (l : List ℕ). ends (at + run t (drop at s)) (scan q l)) (drop-drop (run t (drop at s)) at s);
+            ∙ ap (λ (l : List ℕ). ends (at + runLength t (drop at s)) (scan q l)) (drop-drop (runLength t (drop at s)) at s);
       }
 
   -- a run is eaten
@@ -80,7 +80,7 @@ module _ {s : List ℕ} {from at : ℕ} {q : State} (p : Reads s from at q) wher
   unfolding over
   reads-alternate r t g h {d} f =
       let o = p .ordered in
-      let n : d - at ≡ run t (drop at s) = omega arith in
+      let n : d - at ≡ runLength t (drop at s) = omega arith in
       rw n
       (record {
         ordered = omega arith;
@@ -98,7 +98,7 @@ module _ {s : List ℕ} {from at : ℕ} {q : State} (p : Reads s from at q) wher
       }
 
   -- a pair is eaten
-  pub reads-pair : (m r : State) → pairs q m r ≡ true → seesPair (drop at s) ≡ true → {d e : ℕ} → d ≡ moved at s → e ≡ moved d s → Reads s from e r
+  pub reads-pair : (m r : State) → paired q m r ≡ true → seesPair (drop at s) ≡ true → {d e : ℕ} → d ≡ moved at s → e ≡ moved d s → Reads s from e r
   unfolding seesPair
   reads-pair m r g h {d} {e} f i =
       let a = sees (char ":") (drop at s) in
@@ -119,7 +119,7 @@ module _ {s : List ℕ} {from at : ℕ} {q : State} (p : Reads s from at q) wher
             ∙ rw (w, k);
       }
 
-  pub reads-joined-pair : (m r u : State) → pairs q m u ≡ true → pairs r m u ≡ true → seesPair (drop at s) ≡ true → Reads s from at r
+  pub reads-joined-pair : (m r u : State) → paired q m u ≡ true → paired r m u ≡ true → seesPair (drop at s) ≡ true → Reads s from at r
   unfolding seesPair
   reads-joined-pair m r u g i h =
       let a = sees (char ":") (drop at s) in
@@ -143,7 +143,7 @@ module _ {s : List ℕ} {from at : ℕ} {q : State} (p : Reads s from at q) wher
       double nothing e = absurd (true≢false (sym e))
       double (found n k) e = refl
 
-  pub reads-found : (k : ℕ) → scan q (drop at s) ≡ found 0 k → Ends s from at k
+  reads-found : (k : ℕ) → scan q (drop at s) ≡ found 0 k → Ends s from at k
   reads-found k e = record { ordered = p .ordered; same = p .same ∙ ap (ends at) e ∙ ap (λ (n : ℕ). found n k) (omega arith) }
 
   pub reads-stop : (t : Set) (k : ℕ) → goes q (no t) [] ≡ true → met q ≡ k ∷ [] → sees t (drop at s) ≡ false → Ends s from at k
@@ -174,7 +174,7 @@ module _ {s : List ℕ} {from at k : ℕ} (e : Ends s from at k) where
   lexeme : scan (start rules) (drop from s) ≡ found (at - from) k
   lexeme = ends-found from at k (scan (start rules) (drop from s)) (e .same)
 
-  pub ends-from : from < length s
+  ends-from : from < length s
   ends-from =
       split (ltb from (length s))
       (λ h. ltb-true from (length s) h)

@@ -12,7 +12,7 @@ use lib.ListN.{length, drop, getD, drop-of-length-le}
 use lib.Seq.{drop-cons, drop-drop}
 use Rattle.keywords.proofs.Logic.{split, and-left, and-right}
 use Rattle.grammar.specs.Form.{Set, none, any, no, _or_, _except_, holds}
-use Rattle.grammar.specs.Runs.{sees, run, moved, optional, over}
+use Rattle.grammar.specs.Runs.{sees, runLength, moved, optional, over}
 use Rattle.grammar.proofs.High.{plainSet, low, low-set, low-small}
 use Rattle.grammar.proofs.Reach.{below, below-at}
 
@@ -39,8 +39,8 @@ pub seen-holds : (t : Set) (s : List ℕ) (at : ℕ) → sees t (drop at s) ≡ 
 unfolding sees
 seen-holds t s at e = sym (ap (sees t) (seen-cons t s at e)) ∙ e
 
-run-stops : (t : Set) (l : List ℕ) → sees t (drop (run t l) l) ≡ false
-unfolding sees run
+run-stops : (t : Set) (l : List ℕ) → sees t (drop (runLength t l) l) ≡ false
+unfolding sees runLength
 run-stops t [] = refl
 run-stops t (b ∷ l) = split (holds t b) (λ e. rw e (run-stops t l)) (λ e. let h = e in rw e h)
 
@@ -71,7 +71,7 @@ optional-up t s at d = split (sees t (drop at s)) (λ e. rw e (λ f. omega arith
 
 pub over-stops : (t : Set) (s : List ℕ) (at d : ℕ) → d ≡ over t at s → sees t (drop d s) ≡ false
 unfolding over
-over-stops t s at d e = rw (e, ← drop-drop (run t (drop at s)) at s) (run-stops t (drop at s))
+over-stops t s at d e = rw (e, ← drop-drop (runLength t (drop at s)) at s) (run-stops t (drop at s))
 
 pub over-on : (t : Set) (s : List ℕ) (at d : ℕ) → d ≡ over t at s → at ≤ d
 unfolding over

@@ -10,7 +10,7 @@ use lib.Dec.{ltb}
 use lib.ListN.{length, drop}
 use Rattle.keywords.proofs.Logic.{split, and-left, and-right, every}
 use Rattle.grammar.specs.Form.{Set, no, _or_, holds}
-use Rattle.grammar.specs.Runs.{char, sees, run, seesPair}
+use Rattle.grammar.specs.Runs.{char, sees, runLength, seesPair}
 use Rattle.grammar.proofs.States.{State, step, after, met}
 use Rattle.grammar.proofs.Model.{Found, nothing, found, here, onward, scan}
 use Rattle.grammar.proofs.High.{plainSet, plain, low, low-set, low-step, low-small}
@@ -27,7 +27,7 @@ ends at (found n k) = found (at + n) k
 abbrev pub goes : State → Set → State → Bool
 goes q t r = every plain q && plainSet t && below 129 (λ b. let there = alike (step b q) r in not (holds t b) || there)
 
-pub goes-step : (q : State) (t : Set) (r : State) → goes q t r ≡ true → (b : ℕ) → holds t b ≡ true → step b q ≡ r
+goes-step : (q : State) (t : Set) (r : State) → goes q t r ≡ true → (b : ℕ) → holds t b ≡ true → step b q ≡ r
 goes-step q t r g b h =
     let p = and-left (every plain q && plainSet t) (below 129 (λ b. not (holds t b) || alike (step b q) r)) g in
     let l = below-at (λ b. not (holds t b) || alike (step b q) r) 129 (and-right (every plain q && plainSet t) _ g) (low b) (low-small b) in
@@ -70,12 +70,12 @@ ends-step q t r g m at b l h =
 
 -- the run of a set that leads back to the state
 pub ends-run : (q : State) (t : Set) → goes q t q ≡ true → meets q ≡ true → (l : List ℕ) (at : ℕ)
-    → ends at (scan q l) ≡ ends (at + run t l) (scan q (drop (run t l) l))
-unfolding run
+    → ends at (scan q l) ≡ ends (at + runLength t l) (scan q (drop (runLength t l) l))
+unfolding runLength
 ends-run q t g m [] at = rw add-zero
 ends-run q t g m (b ∷ l) at =
     split (holds t b)
-    (λ e. let h = e in rw e (ends-step q t q g m at b l h ∙ ends-run q t g m l (at + 1) ∙ ap (λ (n : ℕ). ends n (scan q (drop (run t l) l))) (omega arith)))
+    (λ e. let h = e in rw e (ends-step q t q g m at b l h ∙ ends-run q t g m l (at + 1) ∙ ap (λ (n : ℕ). ends n (scan q (drop (runLength t l) l))) (omega arith)))
     (λ e. rw (e, add-zero))
 
 -- two states from which the bytes of a set lead to the same
@@ -114,14 +114,14 @@ alternate zero a b = a
 alternate (suc n) a b = alternate n b a
 
 pub ends-alternate : (t : Set) (l : List ℕ) (a b : State) → goes a t b && meets b ≡ true → goes b t a && meets a ≡ true → (at : ℕ)
-    → ends at (scan a l) ≡ ends (at + run t l) (scan (alternate (run t l) a b) (drop (run t l) l))
-unfolding run
+    → ends at (scan a l) ≡ ends (at + runLength t l) (scan (alternate (runLength t l) a b) (drop (runLength t l) l))
+unfolding runLength
 ends-alternate t [] a b g h at = rw add-zero
 ends-alternate t (c ∷ l) a b g h at =
     split (holds t c)
     (λ e. let i = e in rw e
     (ends-step a t b (and-left (goes a t b) (meets b) g) (and-right (goes a t b) (meets b) g) at c l i ∙ ends-alternate t l b a h g (at + 1)
-    ∙ ap (λ (n : ℕ). ends n (scan (alternate (run t l) b a) (drop (run t l) l))) (omega arith)))
+    ∙ ap (λ (n : ℕ). ends n (scan (alternate (runLength t l) b a) (drop (runLength t l) l))) (omega arith)))
     (λ e. rw (e, add-zero))
 
 pub alternate-even : (a b : State) (n : ℕ) → n % 2 ≡ 0 → alternate n a b ≡ a
@@ -148,10 +148,10 @@ scan-joined q r t p g h m (b ∷ l) e =
     onward-same (found n k) e = refl
 
 -- A pair leads from q over m to r.
-abbrev pub pairs : State → State → State → Bool
-pairs q m r = goes q (char ":") m && goes m (char ":") r && meets r
+abbrev pub paired : State → State → State → Bool
+paired q m r = goes q (char ":") m && goes m (char ":") r && meets r
 
-pub scan-pair : (q m r : State) → pairs q m r ≡ true → (b c : ℕ) (l : List ℕ) → holds (char ":") b ≡ true → holds (char ":") c ≡ true
+pub scan-pair : (q m r : State) → paired q m r ≡ true → (b c : ℕ) (l : List ℕ) → holds (char ":") b ≡ true → holds (char ":") c ≡ true
     → scan q (b ∷ c ∷ l) ≡ onward (onward (scan r l) (met m)) (met q)
 scan-pair q m r g b c l e f =
     let x = goes q (char ":") m in

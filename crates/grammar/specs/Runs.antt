@@ -1,4 +1,4 @@
--- What a text begins with, and its parts. Assumes nothing.
+-- What a text begins with, and its parts: for the lexer's private contracts and the proofs; `Gives` does not rest on it. Assumes nothing.
 use Prim.Native.Nat.{ℕ, suc, _+_, _-_}
 use Prim.Native.Char.{Char, code}
 use mathlib.Core.Bool.{Bool, false, cond, _&&_}
@@ -12,9 +12,9 @@ sees t [] = false
 sees t (b ∷ s) = holds t b
 
 -- with so many bytes of the set
-unfoldable pub run : Set → List ℕ → ℕ
-run t [] = 0
-run t (b ∷ s) = cond (holds t b) (suc (run t s)) 0
+unfoldable pub runLength : Set → List ℕ → ℕ
+runLength t [] = 0
+runLength t (b ∷ s) = cond (holds t b) (suc (runLength t s)) 0
 
 -- a byte by its character
 abbrev pub char : Char → Set
@@ -36,4 +36,4 @@ unfoldable pub optional : Set → ℕ → List ℕ → ℕ
 optional t at s = cond (sees t (drop at s)) (at + 1) at
 
 unfoldable pub over : Set → ℕ → List ℕ → ℕ
-over t at s = at + run t (drop at s)
+over t at s = at + runLength t (drop at s)

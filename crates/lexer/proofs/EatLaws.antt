@@ -10,7 +10,7 @@ use lib.ListN.{length, getD, drop, drop-of-length-le}
 use lib.Seq.{drop-cons, drop-drop}
 use Rattle.keywords.proofs.Logic.{split, and-left}
 use Rattle.grammar.specs.Form.{Set, byte, no, _or_, holds}
-use Rattle.grammar.specs.Runs.{char, seesPair, sees, run, moved, optional, over}
+use Rattle.grammar.specs.Runs.{char, seesPair, sees, runLength, moved, optional, over}
 use Rattle.grammar.proofs.Seen.{moved-one, optional-one, over-on, moved-up, seen-in}
 use Rattle.lexer.specs.declared.cursor.Peek.the-variants.{Byte, Nothing}
 use Rattle.lexer.specs.declared.cursor.Past.{Past}
@@ -48,15 +48,15 @@ moved-not s at h = rw (drop-of-length-le s h, add-zero)
 -- a loop over a run: from i it ends where it ends from the start
 module _ (t : Set) (s : List ℕ) (i : ℕ) where
   pub over-more : i < length s → holds t (getD s i 0) ≡ true → over t i s ≡ over t (i + 1) s
-  unfolding over run
+  unfolding over runLength
   over-more h e = rw (drop-cons s i 0 h, e, add-one i) (omega arith)
 
   pub over-stop : i < length s → holds t (getD s i 0) ≡ false → over t i s ≡ i
-  unfolding over run
+  unfolding over runLength
   over-stop h e = rw (drop-cons s i 0 h, e, add-zero)
 
   pub over-end : length s ≤ i → over t i s ≡ i
-  unfolding over run
+  unfolding over runLength
   over-end h = rw (drop-of-length-le s h, add-zero)
 
 -- `::`

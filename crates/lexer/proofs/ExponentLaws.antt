@@ -13,6 +13,7 @@ use Rattle.grammar.specs.Answers.{first, init, answer}
 use Rattle.grammar.specs.Runs.{char, sees, part, moved, optional}
 use Rattle.grammar.proofs.Seen.{misses-none, misses-or, or-left, or-right, or-other, inside-sees, except-sees}
 use Rattle.grammar.proofs.Seen.{moved-one, seen-in, optional-one, optional-none}
+use Rattle.grammar.proofs.RulePlaces.{floatRule, underscoreRule, noExponentRule, wordAfterExponentRule}
 use Rattle.grammar.proofs.Reading.{Reads, Ends, behind, ends-long, ends-in, reads-eat, reads-joined, reads-stop}
 use Rattle.lexer.specs.declared.lexed.Refusal.the-variants.{BadExponentPart}
 use Rattle.lexer.specs.declared.lexed.Lexed.{Lexed}
@@ -26,7 +27,7 @@ use Rattle.lexer.proofs.GroupLaws.{endOf, groups-read}
 use Rattle.lexer.proofs.DigitLaws.{Run, After, Stuck, digits-after, digits-stuck}
 use Rattle.lexer.proofs.NumberLaws.{span-lexes}
 
-exponent-run : Run D any (behind "1e5") (behind "1e_") 21
+exponent-run : Run D any (behind "1e5") (behind "1e_") underscoreRule
 unfolding behind rules operators isDigit isHexdigit isIdentifierStart isIdentifierContinue isBlank
 exponent-run = record { digit = refl; line = refl; back = refl; stop = refl; rule = refl; digits-in = refl; line-in = refl; apart = refl }
 
@@ -66,19 +67,19 @@ module _ {s : List ℕ} {from at d n : ℕ} (p : Exponent s from at) (f : d ≡ 
       either x y = split (sees D (drop n s)) x (λ m. y (or-other D (char "_") (drop n s) h m))
 
   -- or nothing
-  exponent-none : sees D (drop n s) ≡ false → sees (char "_") (drop n s) ≡ false → Ends s from n 24
+  exponent-none : sees D (drop n s) ≡ false → sees (char "_") (drop n s) ≡ false → Ends s from n noExponentRule
   unfolding behind rules operators isDigit isHexdigit isIdentifierStart isIdentifierContinue isBlank
   exponent-none x y =
       split (sees (char "+" or char "-") (drop d s))
-      (λ h. reads-stop (signed h) (D or char "_") 24 refl refl (misses-or _ _ _ x y))
+      (λ h. reads-stop (signed h) (D or char "_") noExponentRule refl refl (misses-or _ _ _ x y))
       (λ h. let e = unsigned h in
       let q : Reads s from n (behind "1e") = rw e e-reads in
-      reads-stop q (D or char "_" or char "+" or char "-") 24 refl refl (misses-or _ _ _ x (misses-or _ _ _ y (rw e h))))
+      reads-stop q (D or char "_" or char "+" or char "-") noExponentRule refl refl (misses-or _ _ _ x (misses-or _ _ _ y (rw e h))))
 
   exponent-empty : sees (D or char "_") (drop n s) ≡ false → groups D n n (drop n s) ≡ Read (cursor n)
   exponent-empty h = groups-read D n n (drop n s) (or-left D (char "_") (drop n s) h) (or-right D (char "_") (drop n s) h)
 
-  pub exponent-stuck : {k e : ℕ} → Bad (cursor k) (cursor e) ≡ groups D n n (drop n s) → Stuck D s from n k e 21
+  pub exponent-stuck : {k e : ℕ} → Bad (cursor k) (cursor e) ≡ groups D n n (drop n s) → Stuck D s from n k e underscoreRule
   exponent-stuck b =
       split (sees (D or char "_") (drop n s))
       (λ h. digits-stuck exponent-run s from (exponent-digits h) (only-any s from n) exponent-group b)
@@ -91,7 +92,7 @@ module _ {s : List ℕ} {from at d n : ℕ} (p : Exponent s from at) (f : d ≡ 
         (λ h. digits-after exponent-run s from (exponent-digits h) (only-any s from n) exponent-group b)
         (λ h. absurd (k (sym (ap endOf (b ∙ exponent-empty h)))))
 
-    exponent-missing : n ≡ e → Ends s from n 24
+    exponent-missing : n ≡ e → Ends s from n noExponentRule
     exponent-missing k =
         split (sees (D or char "_") (drop n s))
         (λ h. let a = digits-after exponent-run s from (exponent-digits h) (only-any s from n) exponent-group b in
@@ -118,11 +119,11 @@ module _ {s : List ℕ} {from at d n : ℕ} (p : Exponent s from at) (f : d ≡ 
         span-lexes x BadExponentPart _ _ refl _ _ (omega arith) (omega arith) r f
 
     module _ (k : n ≡ e → ⊥) where
-      exponent-word : sees S (drop e s) ≡ true → Ends s from (moved e s) 25
+      exponent-word : sees S (drop e s) ≡ true → Ends s from (moved e s) wordAfterExponentRule
       unfolding behind rules operators isDigit isHexdigit isIdentifierStart isIdentifierContinue isBlank
       exponent-word h =
           let a = exponent-after k in
-          reads-stop (reads-eat (a .reads) (S except char "_") (behind "1e5a") refl (except-sees S _ _ h (a .line)) refl) none 25 refl refl (misses-none _)
+          reads-stop (reads-eat (a .reads) (S except char "_") (behind "1e5a") refl (except-sees S _ _ h (a .line)) refl) none wordAfterExponentRule refl refl (misses-none _)
 
       pub exponent-word-lexed : sees S (drop e s) ≡ true → (r : Lexed) → r ≡ Refused BadExponentPart at (e - at) (cursor from) → Lexes s from r
       unfolding rules answer
@@ -138,6 +139,6 @@ module _ {s : List ℕ} {from at d n : ℕ} (p : Exponent s from at) (f : d ≡ 
           let j = first-e {i = moved e s} (omega arith) (omega arith) in
           span-lexes x BadExponentPart _ _ refl _ _ (omega arith) (omega arith) r f
 
-      pub exponent-ends : sees S (drop e s) ≡ false → Ends s from e 9
+      pub exponent-ends : sees S (drop e s) ≡ false → Ends s from e floatRule
       unfolding behind rules operators isDigit isHexdigit isIdentifierStart isIdentifierContinue isBlank
-      exponent-ends h = let a = exponent-after k in reads-stop (a .reads) (D or S) 9 refl refl (misses-or _ _ _ (a .digit) h)
+      exponent-ends h = let a = exponent-after k in reads-stop (a .reads) (D or S) floatRule refl refl (misses-or _ _ _ (a .digit) h)

@@ -12,6 +12,7 @@ use Rattle.grammar.specs.Answers.{first, init, answer}
 use Rattle.grammar.specs.Runs.{char, sees, part, moved}
 use Rattle.grammar.proofs.Seen.{misses-none, misses-or, inside-sees, except-sees}
 use Rattle.grammar.proofs.Seen.{moved-one, seen-in}
+use Rattle.grammar.proofs.RulePlaces.{floatRule, underscoreRule, wordAfterFractionRule}
 use Rattle.grammar.proofs.Reading.{Reads, Ends, behind, begin, reads-eat, reads-joined, reads-stop}
 use Rattle.lexer.specs.declared.lexed.Refusal.the-variants.{BadFractionalPart}
 use Rattle.lexer.specs.declared.lexed.Lexed.{Lexed}
@@ -24,7 +25,7 @@ use Rattle.lexer.proofs.SpanLaws.{part-long, init-part, only-none, only
 use Rattle.lexer.proofs.DigitLaws.{Run, After, Stuck, digits-after, digits-stuck}
 use Rattle.lexer.proofs.NumberLaws.{span-lexes, wordStart}
 
-fraction-run : Run D (D or oneOf "_.") (behind "1.5") (behind "1.5_") 21
+fraction-run : Run D (D or oneOf "_.") (behind "1.5") (behind "1.5_") underscoreRule
 unfolding behind rules operators isDigit isHexdigit isIdentifierStart isIdentifierContinue isBlank
 fraction-run = record { digit = refl; line = refl; back = refl; stop = refl; rule = refl; digits-in = refl; line-in = refl; apart = refl }
 
@@ -56,9 +57,9 @@ module _ {s : List ℕ} {from at d : ℕ} (p : Dot s from at) (f : d ≡ moved a
         digits = rw n (only-snoc (D or oneOf "_.") s from at o (char ".") refl (p .dot) (only-inside (D or oneOf "_") s from at o (D or oneOf "_.") refl (p .digits)));
       }
 
-  pub dot-ends : sees D (drop d s) ≡ false → sees (char "e" or char "E") (drop d s) ≡ false → Ends s from d 9
+  pub dot-ends : sees D (drop d s) ≡ false → sees (char "e" or char "E") (drop d s) ≡ false → Ends s from d floatRule
   unfolding behind rules operators isDigit isHexdigit isIdentifierStart isIdentifierContinue isBlank
-  dot-ends h n = reads-stop dot-reads (D or char "e" or char "E") 9 refl refl (misses-or _ _ _ h n)
+  dot-ends h n = reads-stop dot-reads (D or char "e" or char "E") floatRule refl refl (misses-or _ _ _ h n)
 
 -- a dot with no digits before it
 pub first-fraction : (s : List ℕ) (from d : ℕ) → At (char ".") from s → d ≡ moved from s → sees D (drop d s) ≡ true → Fraction s from from d
@@ -84,7 +85,7 @@ module _ {s : List ℕ} {from dot at : ℕ} (p : Fraction s from dot at) where
   unfolding isDigit
   fraction-group = rw (p .next) (group-start D s from dot (p .ordered) (char ".") refl (p .dot))
 
-  pub fraction-stuck : {g e : ℕ} → Bad (cursor g) (cursor e) ≡ groups D at at (drop at s) → Stuck D s from at g e 21
+  pub fraction-stuck : {g e : ℕ} → Bad (cursor g) (cursor e) ≡ groups D at at (drop at s) → Stuck D s from at g e underscoreRule
   fraction-stuck b = digits-stuck fraction-run s from (p .reads) through-dot fraction-group b
 
   pub fraction-after : {e : ℕ} → Read (cursor e) ≡ groups D at at (drop at s) → After D (D or oneOf "_.") s from at e (behind "1.5")
@@ -97,10 +98,10 @@ module _ {s : List ℕ} {from dot at : ℕ} (p : Fraction s from dot at) where
     fraction-e h = record { ordered = a .reads .ordered; e = h; reads = reads-eat (a .reads) (char "e" or char "E") (behind "1e") refl h refl; digits = a .only }
 
     module _ (m : sees (char "e" or char "E") (drop e s) ≡ false) where
-      fraction-word : sees S (drop e s) ≡ true → Ends s from (moved e s) 23
+      fraction-word : sees S (drop e s) ≡ true → Ends s from (moved e s) wordAfterFractionRule
       unfolding behind rules operators isDigit isHexdigit isIdentifierStart isIdentifierContinue isBlank
       fraction-word h =
-          reads-stop (reads-eat (a .reads) wordStart (behind "1.5a") refl (except-sees S _ _ h (misses-or _ _ _ (a .line) m)) refl) none 23 refl refl (misses-none _)
+          reads-stop (reads-eat (a .reads) wordStart (behind "1.5a") refl (except-sees S _ _ h (misses-or _ _ _ (a .line) m)) refl) none wordAfterFractionRule refl refl (misses-none _)
 
       pub fraction-word-lexed : sees S (drop e s) ≡ true → (r : Lexed) → r ≡ Refused BadFractionalPart dot (e - dot) (cursor from) → Lexes s from r
       unfolding rules answer isDigit
@@ -118,6 +119,6 @@ module _ {s : List ℕ} {from dot at : ℕ} (p : Fraction s from dot at) where
           (inside-sees (char ".") (oneOf ".") refl (drop dot s) (p .dot)) in
           span-lexes x BadFractionalPart _ _ refl _ _ (omega arith) (omega arith) r f
 
-      pub fraction-ends : sees S (drop e s) ≡ false → Ends s from e 9
+      pub fraction-ends : sees S (drop e s) ≡ false → Ends s from e floatRule
       unfolding behind rules operators isDigit isHexdigit isIdentifierStart isIdentifierContinue isBlank
-      fraction-ends h = reads-stop (a .reads) (D or S) 9 refl refl (misses-or _ _ _ (a .digit) h)
+      fraction-ends h = reads-stop (a .reads) (D or S) floatRule refl refl (misses-or _ _ _ (a .digit) h)

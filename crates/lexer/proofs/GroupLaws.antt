@@ -12,7 +12,7 @@ use borrow.Author.Tests.{eqb-true, eqb-false}
 use Rattle.keywords.proofs.Logic.{split}
 use Rattle.words.specs.Bytes.{isHexdigit, isDigit}
 use Rattle.grammar.specs.Form.{Set, H, no, holds}
-use Rattle.grammar.specs.Runs.{char, sees, run, over}
+use Rattle.grammar.specs.Runs.{char, sees, runLength, over}
 use Rattle.grammar.proofs.Seen.{over-stops, inside-misses, sees-no}
 use Rattle.lexer.specs.declared.digits.Digits.{Digits}
 use Rattle.lexer.specs.declared.digits.Digits.the-variants.{Read, Bad}
@@ -28,12 +28,12 @@ abbrev pub firstOf : Digits → ℕ
 firstOf (Read c) = c .at
 firstOf (Bad g c) = g .at
 
-groups-run : (t : Set) (g i : ℕ) (l : List ℕ) → groups t g i l ≡ groups t g (i + run t l) (drop (run t l) l)
-unfolding groups run
+groups-run : (t : Set) (g i : ℕ) (l : List ℕ) → groups t g i l ≡ groups t g (i + runLength t l) (drop (runLength t l) l)
+unfolding groups runLength
 groups-run t g i [] = rw add-zero
 groups-run t g i (b ∷ l) =
     split (holds t b)
-    (λ e. rw e (groups-run t g (i + 1) l ∙ ap (λ (n : ℕ). groups t g n (drop (run t l) l)) (omega arith)))
+    (λ e. rw e (groups-run t g (i + 1) l ∙ ap (λ (n : ℕ). groups t g n (drop (runLength t l) l)) (omega arith)))
     (λ e. rw (e, add-zero, e))
 
 -- where the digits of a group end
@@ -54,7 +54,7 @@ module _ (t : Set) (g i : ℕ) where
   groups-more [] d e f = absurd (true≢false (sym e))
   groups-more (b ∷ l) d e f = rw (d, e, f)
 
--- a group of a run, from its start g to d
+-- a group of a runLength, from its start g to d
 module _ (t : Set) (s : List ℕ) (g d : ℕ) (e : d ≡ over t g s) where
   to-end : groups t g g (drop g s) ≡ groups t g d (drop d s)
   unfolding over
@@ -91,8 +91,8 @@ no-underscore l k = inside-misses (char "_") (no H) refl l (sees-no H l k)
 
 -- `_` follows no hexadecimal digit only where the group is empty
 module _ (s : List ℕ) (g d : ℕ) (e : d ≡ over H g s) where
-  pub hex-started : (g ≡ d → ⊥) → sees (char "_") (drop g s) ≡ false
-  unfolding sees over run isHexdigit isDigit
+  hex-started : (g ≡ d → ⊥) → sees (char "_") (drop g s) ≡ false
+  unfolding sees over runLength isHexdigit isDigit
   hex-started n = go (drop g s) refl
     where
       go : (l : List ℕ) → drop g s ≡ l → sees (char "_") l ≡ false

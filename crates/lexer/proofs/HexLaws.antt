@@ -13,6 +13,7 @@ use Rattle.grammar.specs.Answers.{afterLast, init, answer}
 use Rattle.grammar.specs.Runs.{char, sees, part, moved}
 use Rattle.grammar.proofs.Seen.{misses-none, misses-or, except-sees}
 use Rattle.grammar.proofs.Seen.{moved-one, seen-in}
+use Rattle.grammar.proofs.RulePlaces.{integerRule, noHexdigitRule, underscoreAfterXRule, hexUnderscoreRule, wordAfterHexRule}
 use Rattle.grammar.proofs.Reading.{Reads, Ends, behind, ends-long, reads-eat, reads-joined, reads-stop}
 use Rattle.lexer.specs.declared.lexed.Refusal.the-variants.{BadNumber, MalformedHexInteger}
 use Rattle.lexer.specs.declared.lexed.Lexed.{Lexed}
@@ -27,13 +28,13 @@ use Rattle.lexer.proofs.GroupLaws.{endOf, firstOf, groups-read, hex-gro
 use Rattle.lexer.proofs.DigitLaws.{Run, After, Stuck, digits-after, digits-stuck}
 use Rattle.lexer.proofs.NumberLaws.{span-lexes}
 
-hex-run : Run H any (behind "0x1") (behind "0x1_") 28
+hex-run : Run H any (behind "0x1") (behind "0x1_") hexUnderscoreRule
 unfolding behind rules operators isDigit isHexdigit isIdentifierStart isIdentifierContinue isBlank
 hex-run = record { digit = refl; line = refl; back = refl; stop = refl; rule = refl; digits-in = refl; line-in = refl; apart = refl }
 
 -- `_` with no digit next: the span begins with the last group
 module _ {s : List ℕ} {from i g e : ℕ} (r : Lexed) (f : r ≡ Refused BadNumber g (e - g) (cursor from)) where
-  hex-stuck-lexed : from + 2 ≤ i → Stuck H s from i g e 28 → Lexes s from r
+  hex-stuck-lexed : from + 2 ≤ i → Stuck H s from i g e hexUnderscoreRule → Lexes s from r
   unfolding rules answer
   hex-stuck-lexed h b =
       let z = init-part s from (b .line) (omega arith) e (b .last) (b .text) in
@@ -49,13 +50,13 @@ module _ {s : List ℕ} {from at : ℕ} (p : Hex s from at) where
   unfolding behind rules operators isDigit isHexdigit isIdentifierStart isIdentifierContinue isBlank
   hex-reads h = reads-joined (p .reads) (behind "0x1") H (behind "0x1") refl h
 
-  hex-line : sees (char "_") (drop at s) ≡ true → Ends s from (moved at s) 27
+  hex-line : sees (char "_") (drop at s) ≡ true → Ends s from (moved at s) underscoreAfterXRule
   unfolding behind rules operators isDigit isHexdigit isIdentifierStart isIdentifierContinue isBlank
-  hex-line h = reads-stop (reads-eat (p .reads) (char "_") (behind "0x_") refl h refl) none 27 refl refl (misses-none _)
+  hex-line h = reads-stop (reads-eat (p .reads) (char "_") (behind "0x_") refl h refl) none underscoreAfterXRule refl refl (misses-none _)
 
-  hex-none : sees H (drop at s) ≡ false → sees (char "_") (drop at s) ≡ false → Ends s from at 26
+  hex-none : sees H (drop at s) ≡ false → sees (char "_") (drop at s) ≡ false → Ends s from at noHexdigitRule
   unfolding behind rules operators isDigit isHexdigit isIdentifierStart isIdentifierContinue isBlank
-  hex-none x y = reads-stop (p .reads) (H or char "_") 26 refl refl (misses-or _ _ _ x y)
+  hex-none x y = reads-stop (p .reads) (H or char "_") noHexdigitRule refl refl (misses-or _ _ _ x y)
 
   -- what a run is, if it does not begin with `_`
   hex-plain : {d : Digits} → d ≡ hexGroups at (drop at s) → sees (char "_") (drop at s) ≡ false → d ≡ groups H at at (drop at s)
@@ -98,7 +99,7 @@ module _ {s : List ℕ} {from at : ℕ} (p : Hex s from at) where
         (λ k. digits-after hex-run s from (hex-reads k) (only-any s from at) (p .run) (hex-plain b starts))
         (λ k. absurd (n (sym (ap endOf (hex-plain b starts ∙ groups-read H at at (drop at s) k starts)))))
 
-    hex-missing : at ≡ e → Ends s from at 26
+    hex-missing : at ≡ e → Ends s from at noHexdigitRule
     hex-missing n =
         split (sees H (drop at s))
         (λ k. let a = digits-after hex-run s from (hex-reads k) (only-any s from at) (p .run) (hex-plain b starts) in
@@ -110,12 +111,12 @@ module _ {s : List ℕ} {from at : ℕ} (p : Hex s from at) where
     hex-missing-lexed n r f = let w = p .two in span-lexes (hex-missing n) MalformedHexInteger 0 2 refl _ _ (omega arith) (omega arith) r f
 
     module _ (n : at ≡ e → ⊥) where
-      hex-word : sees S (drop e s) ≡ true → Ends s from (moved e s) 29
+      hex-word : sees S (drop e s) ≡ true → Ends s from (moved e s) wordAfterHexRule
       unfolding behind rules operators isDigit isHexdigit isIdentifierStart isIdentifierContinue isBlank
       hex-word h =
           let a = hex-after n in
           reads-stop (reads-eat (a .reads) (S except (H or char "_")) (behind "0x1g") refl (except-sees S _ _ h (misses-or _ _ _ (a .digit) (a .line))) refl)
-          none 29 refl refl (misses-none _)
+          none wordAfterHexRule refl refl (misses-none _)
 
       pub hex-word-lexed : sees S (drop e s) ≡ true → (r : Lexed) → r ≡ Refused BadNumber from (e - from) (cursor from) → Lexes s from r
       unfolding rules answer
@@ -126,6 +127,6 @@ module _ {s : List ℕ} {from at : ℕ} (p : Hex s from at) where
           let k : length (init (part s from (moved e s))) ≡ e - from = rw z (part-long s from e o (omega arith)) in
           span-lexes (hex-word h) BadNumber _ _ refl _ _ (omega arith) (omega arith) r f
 
-      pub hex-ends : sees S (drop e s) ≡ false → Ends s from e 8
+      pub hex-ends : sees S (drop e s) ≡ false → Ends s from e integerRule
       unfolding behind rules operators isDigit isHexdigit isIdentifierStart isIdentifierContinue isBlank
-      hex-ends h = let a = hex-after n in reads-stop (a .reads) (H or S) 8 refl refl (misses-or _ _ _ (a .digit) h)
+      hex-ends h = let a = hex-after n in reads-stop (a .reads) (H or S) integerRule refl refl (misses-or _ _ _ (a .digit) h)

@@ -12,6 +12,7 @@ use Rattle.grammar.specs.Answers.{init, answer}
 use Rattle.grammar.specs.Runs.{char, sees, part, moved}
 use Rattle.grammar.proofs.Seen.{misses-none, misses-or, inside-misses, except-sees}
 use Rattle.grammar.proofs.Seen.{moved-one, seen-in}
+use Rattle.grammar.proofs.RulePlaces.{integerRule, underscoreRule, wordAfterIntegerRule}
 use Rattle.grammar.proofs.Reading.{Reads, Ends, behind, begin, reads-eat, reads-join, reads-stop}
 use Rattle.lexer.specs.declared.lexed.Refusal.the-variants.{BadNumber}
 use Rattle.lexer.specs.declared.lexed.Lexed.{Lexed}
@@ -24,13 +25,13 @@ use Rattle.lexer.proofs.SpanLaws.{part-long, init-part, only-none, only
 use Rattle.lexer.proofs.DigitLaws.{Run, After, Stuck, digits-after, digits-stuck}
 use Rattle.lexer.proofs.NumberLaws.{span-lexes, wordStart}
 
-decimal-run : Run D (D or oneOf "_") (behind "1") (behind "1_") 21
+decimal-run : Run D (D or oneOf "_") (behind "1") (behind "1_") underscoreRule
 unfolding behind rules operators isDigit isHexdigit isIdentifierStart isIdentifierContinue isBlank
 decimal-run = record { digit = refl; line = refl; back = refl; stop = refl; rule = refl; digits-in = refl; line-in = refl; apart = refl }
 
 -- behind a number's first digit
 module _ {s : List ℕ} {from at : ℕ} (p : Decimal s from at) where
-  pub decimal-stuck : {g e : ℕ} → Bad (cursor g) (cursor e) ≡ groups D at at (drop at s) → Stuck D s from at g e 21
+  pub decimal-stuck : {g e : ℕ} → Bad (cursor g) (cursor e) ≡ groups D at at (drop at s) → Stuck D s from at g e underscoreRule
   decimal-stuck b = digits-stuck decimal-run s from (p .reads) (p .digits) (p .run) b
 
   pub decimal-after : {e : ℕ} → Read (cursor e) ≡ groups D at at (drop at s) → After D (D or oneOf "_") s from at e (behind "1")
@@ -51,10 +52,10 @@ module _ {s : List ℕ} {from i at : ℕ} (p : After D (D or oneOf "_") s from i
   }
 
   module _ (n : sees (char ".") (drop at s) ≡ false) (m : sees (char "e" or char "E") (drop at s) ≡ false) where
-    integer-word : sees S (drop at s) ≡ true → Ends s from (moved at s) 22
+    integer-word : sees S (drop at s) ≡ true → Ends s from (moved at s) wordAfterIntegerRule
     unfolding behind rules operators isDigit isHexdigit isIdentifierStart isIdentifierContinue isBlank
     integer-word h =
-        reads-stop (reads-eat (p .reads) wordStart (behind "1a") refl (except-sees S _ _ h (misses-or _ _ _ (p .line) m)) refl) none 22 refl refl (misses-none _)
+        reads-stop (reads-eat (p .reads) wordStart (behind "1a") refl (except-sees S _ _ h (misses-or _ _ _ (p .line) m)) refl) none wordAfterIntegerRule refl refl (misses-none _)
 
     pub integer-word-lexed : sees S (drop at s) ≡ true → (r : Lexed) → r ≡ Refused BadNumber from (at - from) (cursor from) → Lexes s from r
     unfolding rules answer
@@ -66,9 +67,9 @@ module _ {s : List ℕ} {from i at : ℕ} (p : After D (D or oneOf "_") s from i
         let k : length (init (part s from (moved at s))) ≡ at - from = rw z (part-long s from at o (omega arith)) in
         span-lexes e BadNumber _ _ refl _ _ (omega arith) (omega arith) r f
 
-    pub integer-ends : sees S (drop at s) ≡ false → Ends s from at 8
+    pub integer-ends : sees S (drop at s) ≡ false → Ends s from at integerRule
     unfolding behind rules operators isDigit isHexdigit isIdentifierStart isIdentifierContinue isBlank
-    integer-ends h = reads-stop (p .reads) (D or char "." or S) 8 refl refl (misses-or _ _ _ (p .digit) (misses-or _ _ _ n h))
+    integer-ends h = reads-stop (p .reads) (D or char "." or S) integerRule refl refl (misses-or _ _ _ (p .digit) (misses-or _ _ _ n h))
 
 -- a number's first digit
 module _ (s : List ℕ) (from d : ℕ) (h : At D from s) (f : d ≡ moved from s) where

@@ -1,4 +1,4 @@
--- A token leads on: the next cursor lies behind the token's start, and not behind the text's end. Assumes nothing.
+-- A token leads on: the next cursor lies behind the one given, and not behind the text's end. Assumes nothing.
 use Prim.Native.Nat.{ℕ, _+_, _≤_, _<_}
 use native.Mathlib.Omega.{arith}
 use mathlib.Core.Path.{_≡_}

@@ -61,7 +61,7 @@ single-lexed b s at h n o f r e =
     operator-lexed (spelled-first b s at h (sym (moved-one (byte b) s at h))) n o (rw f (misses-none _)) r (e ∙ rw (← d))
 
 -- a byte is none of these
-abbrev pub Apart : ℕ → List ℕ → Type 0
+abbrev Apart : ℕ → List ℕ → Type 0
 Apart b [] = Unit {0}
 Apart b (k ∷ l) = Apart b l × (b ≡ k → ⊥)
 

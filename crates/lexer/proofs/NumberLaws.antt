@@ -3,11 +3,13 @@ use Prim.Native.Nat.{ℕ, _+_, _-_, max}
 use native.Mathlib.Omega.{arith}
 use mathlib.Core.Path.{_≡_, refl}
 use mathlib.Core.List.{List}
+use Rattle.keywords.specs.Kinds.{kind}
 use Rattle.grammar.specs.Form.{Set, D, S, no, _or_, _except_}
 use Rattle.grammar.specs.Classes.{rules}
 use Rattle.grammar.specs.Answers.{refusal, afterLast, init, answer}
 use Rattle.grammar.specs.Runs.{char, part}
 use Rattle.grammar.proofs.States.{ruleAt}
+use Rattle.grammar.proofs.RulePlaces.{integerRule, floatRule, underscoreRule}
 use Rattle.grammar.proofs.Reading.{Ends, ends-long}
 use Rattle.lexer.specs.declared.lexed.Refusal.{Refusal}
 use Rattle.lexer.specs.declared.lexed.Refusal.the-variants.{BadNumber}
@@ -27,7 +29,7 @@ span-lexes {s} {from} e why m n a x y p q r f = lexes e r (refusal (numberOf why
 
 -- `_` with no digit next: the span begins with the last group
 module _ {s : List ℕ} {from i g e : ℕ} (r : Lexed) (f : r ≡ Refused BadNumber g (e - g) (cursor from)) where
-  pub stuck-lexed : Stuck D s from i g e 21 → Lexes s from r
+  pub stuck-lexed : Stuck D s from i g e underscoreRule → Lexes s from r
   unfolding rules answer
   stuck-lexed b =
       let z = init-part s from (b .line) (omega arith) e (b .last) (b .text) in
@@ -39,10 +41,10 @@ module _ {s : List ℕ} {from i g e : ℕ} (r : Lexed) (f : r ≡ Refused BadNum
 abbrev pub wordStart : Set
 wordStart = S except (char "_" or char "e" or char "E")
 
-pub integer-lexed : {s : List ℕ} {from at : ℕ} → Ends s from at 8 → (r : Lexed) → r ≡ Token 31 from (at - from) (cursor at) → Lexes s from r
+pub integer-lexed : {s : List ℕ} {from at : ℕ} → Ends s from at integerRule → (r : Lexed) → r ≡ Token (kind "TK_INTEGER") from (at - from) (cursor at) → Lexes s from r
 unfolding rules answer
-integer-lexed e r f = token-lexes e 31 r refl f
+integer-lexed e r f = token-lexes e (kind "TK_INTEGER") r refl f
 
-pub float-lexed : {s : List ℕ} {from at : ℕ} → Ends s from at 9 → (r : Lexed) → r ≡ Token 32 from (at - from) (cursor at) → Lexes s from r
+pub float-lexed : {s : List ℕ} {from at : ℕ} → Ends s from at floatRule → (r : Lexed) → r ≡ Token (kind "TK_FLOAT") from (at - from) (cursor at) → Lexes s from r
 unfolding rules answer
-float-lexed e r f = token-lexes e 32 r refl f
+float-lexed e r f = token-lexes e (kind "TK_FLOAT") r refl f

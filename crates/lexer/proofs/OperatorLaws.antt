@@ -7,6 +7,7 @@ use mathlib.Core.Logic.{_⊎_, inl, inr}
 use lib.Dec.{eqb}
 use lib.ListN.{drop}
 use borrow.Author.Tests.{eqb-true}
+use Rattle.keywords.specs.Kinds.{kind}
 use Rattle.keywords.specs.Text.{bytes}
 use Rattle.keywords.specs.Words.{Entry, same, kindIn}
 use Rattle.keywords.proofs.SameLaws.{same-true}
@@ -19,6 +20,7 @@ use Rattle.grammar.specs.Runs.{char, sees, moved, over}
 use Rattle.grammar.proofs.States.{start, after, met}
 use Rattle.grammar.proofs.Seen.{moved-end, over-stops, at-end, misses-none, inside-misses}
 use Rattle.grammar.proofs.Walk.{goes, along}
+use Rattle.grammar.proofs.RulePlaces.{blankRunRule, closedLineRule, openLineRule, closedBlockRule, openBlockRule, operatorRule, bangRule}
 use Rattle.grammar.proofs.Reading.{Reads, Ends, Spelled, behind, begin, reads-eat, reads-while, reads-join, reads-stop}
 use Rattle.grammar.proofs.Reading.{spelled-reads, spelled-part, reads-end}
 use Rattle.lexer.specs.declared.lexed.Lexed.{Lexed}
@@ -32,16 +34,16 @@ use Rattle.lexer.proofs.AnswerLaws.{token-lexes, whole-lexes}
 
 -- a blank run
 module _ (s : List ℕ) (from d e : ℕ) (h : At blank from s) (f : d ≡ moved from s) (g : e ≡ over blank d s) where
-  blanks-end : Ends s from e 0
+  blanks-end : Ends s from e blankRunRule
   unfolding behind rules operators isDigit isHexdigit isIdentifierStart isIdentifierContinue isBlank
   blanks-end =
       let p = reads-eat (begin s from) blank (behind " ") refl h f in
       let q = reads-while p blank refl g in
-      reads-stop q blank 0 refl refl (over-stops blank s d e g)
+      reads-stop q blank blankRunRule refl refl (over-stops blank s d e g)
 
-  pub blanks-lexed : (r : Lexed) → r ≡ Token 0 from (e - from) (cursor e) → Lexes s from r
+  pub blanks-lexed : (r : Lexed) → r ≡ Token (kind "TK_NONE") from (e - from) (cursor e) → Lexes s from r
   unfolding rules answer
-  blanks-lexed r q = token-lexes blanks-end 0 r refl q
+  blanks-lexed r q = token-lexes blanks-end (kind "TK_NONE") r refl q
 
 -- the bytes that make more of an operator; those of a colon take two bytes to be told, so it has laws of its own
 unfoldable pub follow : List ℕ → Set
@@ -65,7 +67,7 @@ one-is k (j ∷ []) e = rw (eqb-true j k e)
 one-is k (j ∷ i ∷ l) e = absurd (true≢false (sym e))
 
 abbrev fits : List ℕ → Bool
-fits w = along (start rules) w && goes (after (start rules) w) (no (follow w)) [] && isOne 5 (met (after (start rules) w))
+fits w = along (start rules) w && goes (after (start rules) w) (no (follow w)) [] && isOne operatorRule (met (after (start rules) w))
 
 abbrev pub isColon : List ℕ → Bool
 isColon w = same w (bytes ":")
@@ -92,14 +94,14 @@ operator-fits w (x ∷ l) n a =
 
 module _ {s : List ℕ} {from at : ℕ} {w : List ℕ} (p : Spelled s from at w) (n : isColon w ≡ false) (o : isOperator w operators ≡ true)
     (m : sees (follow w) (drop at s) ≡ false) where
-  operator-ends : Ends s from at 5
+  operator-ends : Ends s from at operatorRule
   operator-ends =
       let f = operator-fits w operators n all-fit o in
       let q = after (start rules) w in
       let a = along (start rules) w in
       let g = goes q (no (follow w)) [] in
-      let h = and-left (a && g) (isOne 5 (met q)) f in
-      reads-stop (spelled-reads p (and-left a g h)) (follow w) 5 (and-right a g h) (one-is 5 (met q) (and-right (a && g) (isOne 5 (met q)) f)) m
+      let h = and-left (a && g) (isOne operatorRule (met q)) f in
+      reads-stop (spelled-reads p (and-left a g h)) (follow w) operatorRule (and-right a g h) (one-is operatorRule (met q) (and-right (a && g) (isOne operatorRule (met q)) f)) m
 
   pub operator-lexed : (r : Lexed) → r ≡ Token (kindIn operators w) from (at - from) (cursor at) → Lexes s from r
   unfolding rules answer
@@ -111,21 +113,21 @@ module _ {s : List ℕ} {from at : ℕ} (p : Spelled s from at (bytes "--")) {st
   unfolding behind rules operators isDigit isHexdigit isIdentifierStart isIdentifierContinue isBlank
   in-line = reads-while (spelled-reads p refl) (no (char "\n")) refl f
 
-  line-closed : sees (char "\n") (drop stop s) ≡ true → Ends s from e 1
+  line-closed : sees (char "\n") (drop stop s) ≡ true → Ends s from e closedLineRule
   unfolding behind rules operators isDigit isHexdigit isIdentifierStart isIdentifierContinue isBlank
-  line-closed h = reads-stop (reads-eat in-line (char "\n") (behind "--\n") refl h g) none 1 refl refl (misses-none _)
+  line-closed h = reads-stop (reads-eat in-line (char "\n") (behind "--\n") refl h g) none closedLineRule refl refl (misses-none _)
 
-  line-open : drop stop s ≡ [] → Ends s from stop 2
+  line-open : drop stop s ≡ [] → Ends s from stop openLineRule
   unfolding behind rules operators isDigit isHexdigit isIdentifierStart isIdentifierContinue isBlank
-  line-open h = reads-end in-line 2 refl h
+  line-open h = reads-end in-line openLineRule refl h
 
-  pub line-lexed : (r : Lexed) → r ≡ Token 0 from (e - from) (cursor e) → Lexes s from r
+  pub line-lexed : (r : Lexed) → r ≡ Token (kind "TK_NONE") from (e - from) (cursor e) → Lexes s from r
   unfolding rules answer
   line-lexed r q =
       split (sees (char "\n") (drop stop s))
-      (λ h. token-lexes (line-closed h) 0 r refl q)
+      (λ h. token-lexes (line-closed h) (kind "TK_NONE") r refl q)
       (λ h. let n = at-end (char "\n") (drop stop s) h (over-stops _ _ _ _ f) in
-      token-lexes (line-open n) 0 r refl (rw (g ∙ moved-end s stop n) at q))
+      token-lexes (line-open n) (kind "TK_NONE") r refl (rw (g ∙ moved-end s stop n) at q))
 
 -- `/*` to and with `*/`, or to the end
 pub comment-opens : {s : List ℕ} {from at : ℕ} → Spelled s from at (bytes "/*") → Reads s from at (behind "/*")
@@ -133,34 +135,34 @@ unfolding behind rules operators isDigit isHexdigit isIdentifierStart isIdentifi
 comment-opens p = spelled-reads p refl
 
 module _ {s : List ℕ} {from at : ℕ} (p : Reads s from at (behind "/*")) where
-  pub comment-ends : {d : ℕ} → d ≡ over (no (char "*")) at s → sees (char "*") (drop d s) ≡ false → Ends s from d 4
+  pub comment-ends : {d : ℕ} → d ≡ over (no (char "*")) at s → sees (char "*") (drop d s) ≡ false → Ends s from d openBlockRule
   unfolding behind rules operators isDigit isHexdigit isIdentifierStart isIdentifierContinue isBlank
-  comment-ends f h = reads-end (reads-while p (no (char "*")) refl f) 4 refl (at-end (char "*") _ h (over-stops _ _ _ _ f))
+  comment-ends f h = reads-end (reads-while p (no (char "*")) refl f) openBlockRule refl (at-end (char "*") _ h (over-stops _ _ _ _ f))
 
   pub comment-star : {d : ℕ} → Reached 42 s at d → Reads s from d (behind "/**")
   unfolding behind rules operators isDigit isHexdigit isIdentifierStart isIdentifierContinue isBlank
   comment-star r = reads-eat (reads-while p (no (char "*")) refl (r .run)) (char "*") (behind "/**") refl (r .seen) (r .next)
 
 module _ {s : List ℕ} {from at : ℕ} (p : Reads s from at (behind "/**")) where
-  pub comment-closed : sees (char "/") (drop at s) ≡ true → {d : ℕ} → d ≡ moved at s → Ends s from d 3
+  pub comment-closed : sees (char "/") (drop at s) ≡ true → {d : ℕ} → d ≡ moved at s → Ends s from d closedBlockRule
   unfolding behind rules operators isDigit isHexdigit isIdentifierStart isIdentifierContinue isBlank
-  comment-closed h f = reads-stop (reads-eat p (char "/") (behind "/**/") refl h f) none 3 refl refl (misses-none _)
+  comment-closed h f = reads-stop (reads-eat p (char "/") (behind "/**/") refl h f) none closedBlockRule refl refl (misses-none _)
 
   pub comment-more : sees (char "/") (drop at s) ≡ false → Reads s from at (behind "/*")
   unfolding behind rules operators isDigit isHexdigit isIdentifierStart isIdentifierContinue isBlank
   comment-more h = reads-join p (behind "/*") (no (char "/")) refl refl (inside-misses (no (no (char "/"))) (char "/") refl _ h)
 
-pub comment-lexed : {s : List ℕ} {from at : ℕ} → Ends s from at 3 ⊎ Ends s from at 4 → (r : Lexed) → r ≡ Token 0 from (at - from) (cursor at)
+pub comment-lexed : {s : List ℕ} {from at : ℕ} → Ends s from at closedBlockRule ⊎ Ends s from at openBlockRule → (r : Lexed) → r ≡ Token (kind "TK_NONE") from (at - from) (cursor at)
     → Lexes s from r
 unfolding rules answer
-comment-lexed (inl e) r q = token-lexes e 0 r refl q
-comment-lexed (inr e) r q = token-lexes e 0 r refl q
+comment-lexed (inl e) r q = token-lexes e (kind "TK_NONE") r refl q
+comment-lexed (inr e) r q = token-lexes e (kind "TK_NONE") r refl q
 
 -- `!` alone
 module _ {s : List ℕ} {from at : ℕ} (p : Spelled s from at (bytes "!")) (h : sees (char "=") (drop at s) ≡ false) where
-  bang-ends : Ends s from at 15
+  bang-ends : Ends s from at bangRule
   unfolding behind rules operators isDigit isHexdigit isIdentifierStart isIdentifierContinue isBlank
-  bang-ends = reads-stop (spelled-reads p refl) (char "=") 15 refl refl h
+  bang-ends = reads-stop (spelled-reads p refl) (char "=") bangRule refl refl h
 
   pub bang-lexed : (r : Lexed) → r ≡ Refused ExpectedEqualsSign from (at - from) (cursor from) → Lexes s from r
   unfolding rules answer

@@ -4,6 +4,7 @@ use mathlib.Core.Path.{_≡_, refl}
 use mathlib.Core.Bool.{true, false}
 use mathlib.Core.List.{List}
 use lib.ListN.{drop}
+use Rattle.keywords.specs.Kinds.{kind}
 use Rattle.keywords.specs.Text.{bytes}
 use Rattle.words.specs.Bytes.{isDigit, isHexdigit, isIdentifierStart, isIdentifierContinue, isBlank}
 use Rattle.grammar.specs.Form.{none, D, S, C, blank, byte, no, _or_}
@@ -11,6 +12,7 @@ use Rattle.grammar.specs.Classes.{operators, rules}
 use Rattle.grammar.specs.Answers.{answer}
 use Rattle.grammar.specs.Runs.{char, sees, seesPair, moved, over}
 use Rattle.grammar.proofs.Seen.{inside-misses, misses-none, misses-or, over-stops}
+use Rattle.grammar.proofs.RulePlaces.{operatorRule, parameterRule, namelessRule, unclosedRule}
 use Rattle.grammar.proofs.Reading.{Reads, Ends, Spelled, behind, spelled-reads, spelled-part, reads-eat, reads-while, reads-join}
 use Rattle.grammar.proofs.Reading.{reads-joined, reads-joined-pair, reads-pair, reads-no-pair, reads-stop}
 use Rattle.lexer.specs.declared.lexed.Refusal.the-variants.{UnrecognizedToken}
@@ -23,22 +25,22 @@ use Rattle.lexer.proofs.AnswerLaws.{token-lexes, whole-lexes}
 
 -- the answers
 module _ {s : List ℕ} {from at : ℕ} (r : Lexed) where
-  pub variable-lexed : Ends s from at 11 → r ≡ Token 34 from (at - from) (cursor at) → Lexes s from r
+  pub variable-lexed : Ends s from at parameterRule → r ≡ Token (kind "TK_VARIABLE") from (at - from) (cursor at) → Lexes s from r
   unfolding rules answer
-  variable-lexed e q = token-lexes e 34 r refl q
+  variable-lexed e q = token-lexes e (kind "TK_VARIABLE") r refl q
 
-  pub nameless-lexed : Ends s from at 19 → r ≡ Refused UnrecognizedToken from (at - from) (cursor from) → Lexes s from r
+  pub nameless-lexed : Ends s from at namelessRule → r ≡ Refused UnrecognizedToken from (at - from) (cursor from) → Lexes s from r
   unfolding rules answer
   nameless-lexed e q = whole-lexes e UnrecognizedToken r refl q
 
-  pub unclosed-lexed : Ends s from at 20 → r ≡ Refused UnrecognizedToken from (at - from) (cursor from) → Lexes s from r
+  pub unclosed-lexed : Ends s from at unclosedRule → r ≡ Refused UnrecognizedToken from (at - from) (cursor from) → Lexes s from r
   unfolding rules answer
   unclosed-lexed e q = whole-lexes e UnrecognizedToken r refl q
 
 -- `?` and digits
-pub numbered-ends : {s : List ℕ} {from at d : ℕ} → Spelled s from at (bytes "?") → d ≡ over D at s → Ends s from d 11
+pub numbered-ends : {s : List ℕ} {from at d : ℕ} → Spelled s from at (bytes "?") → d ≡ over D at s → Ends s from d parameterRule
 unfolding behind rules operators isDigit isHexdigit isIdentifierStart isIdentifierContinue isBlank
-numbered-ends p f = reads-stop (reads-while (spelled-reads p refl) D refl f) D 11 refl refl (over-stops _ _ _ _ f)
+numbered-ends p f = reads-stop (reads-while (spelled-reads p refl) D refl f) D parameterRule refl refl (over-stops _ _ _ _ f)
 
 -- the byte that begins a parameter with a name
 pub dollar-reads : {s : List ℕ} {from at : ℕ} → Spelled s from at (bytes "$") → Reads s from at (behind "$")
@@ -58,13 +60,13 @@ module _ {s : List ℕ} {from at : ℕ} (p : Spelled s from at (bytes ":")) wher
   unfolding behind rules operators isDigit isHexdigit isIdentifierStart isIdentifierContinue isBlank
   colon-pair h = reads-joined-pair (spelled-reads p refl) (behind "$:") (behind "$") (behind "$") refl refl h
 
-  colon-ends : sees S (drop at s) ≡ false → seesPair (drop at s) ≡ false → Ends s from at 5
+  colon-ends : sees S (drop at s) ≡ false → seesPair (drop at s) ≡ false → Ends s from at operatorRule
   unfolding behind rules operators isDigit isHexdigit isIdentifierStart isIdentifierContinue isBlank
-  colon-ends h n = reads-no-pair (spelled-reads p refl) (behind "$:") S 5 refl refl refl h n
+  colon-ends h n = reads-no-pair (spelled-reads p refl) (behind "$:") S operatorRule refl refl refl h n
 
-  pub colon-lexed : sees S (drop at s) ≡ false → seesPair (drop at s) ≡ false → (r : Lexed) → r ≡ Token 18 from (at - from) (cursor at) → Lexes s from r
+  pub colon-lexed : sees S (drop at s) ≡ false → seesPair (drop at s) ≡ false → (r : Lexed) → r ≡ Token (kind "TK_COLON") from (at - from) (cursor at) → Lexes s from r
   unfolding rules answer operators
-  colon-lexed h n r q = token-lexes (colon-ends h n) 18 r (rw (spelled-part p)) q
+  colon-lexed h n r q = token-lexes (colon-ends h n) (kind "TK_COLON") r (rw (spelled-part p)) q
 
 -- pairs before the first identifier byte
 module _ {s : List ℕ} {from at : ℕ} (p : Reads s from at (behind "$")) where
@@ -72,9 +74,9 @@ module _ {s : List ℕ} {from at : ℕ} (p : Reads s from at (behind "$")) where
   unfolding behind rules operators isDigit isHexdigit isIdentifierStart isIdentifierContinue isBlank
   nameless-more h f g = reads-pair p (behind "$:") (behind "$") refl h f g
 
-  pub nameless-ends : sees C (drop at s) ≡ false → seesPair (drop at s) ≡ false → Ends s from at 19
+  pub nameless-ends : sees C (drop at s) ≡ false → seesPair (drop at s) ≡ false → Ends s from at namelessRule
   unfolding behind rules operators isDigit isHexdigit isIdentifierStart isIdentifierContinue isBlank
-  nameless-ends h n = reads-no-pair p (behind "$:") C 19 refl refl refl h n
+  nameless-ends h n = reads-no-pair p (behind "$:") C namelessRule refl refl refl h n
 
   pub name-reads : sees C (drop at s) ≡ true → Reads s from at (behind "$a")
   unfolding behind rules operators isDigit isHexdigit isIdentifierStart isIdentifierContinue isBlank
@@ -92,20 +94,20 @@ module _ {s : List ℕ} {from at : ℕ} (p : Reads s from at (behind "$a")) wher
 
 -- behind it
 module _ {s : List ℕ} {from at : ℕ} (p : Named s from at) where
-  pub name-ends : sees (char "(") (drop at s) ≡ false → Ends s from at 11
+  pub name-ends : sees (char "(") (drop at s) ≡ false → Ends s from at parameterRule
   unfolding behind rules operators isDigit isHexdigit isIdentifierStart isIdentifierContinue isBlank
-  name-ends h = reads-no-pair (p .reads) (behind "$a:") (C or char "(") 11 refl refl refl (misses-or _ _ _ (p .byte) h) (p .pair)
+  name-ends h = reads-no-pair (p .reads) (behind "$a:") (C or char "(") parameterRule refl refl refl (misses-or _ _ _ (p .byte) h) (p .pair)
 
   module _ (h : sees (char "(") (drop at s) ≡ true) {d e : ℕ} (f : d ≡ moved at s) (g : e ≡ over (no (char ")" or blank)) d s) where
     suffix-reads : Reads s from e (behind "$a(")
     unfolding behind rules operators isDigit isHexdigit isIdentifierStart isIdentifierContinue isBlank
     suffix-reads = reads-while (reads-eat (p .reads) (char "(") (behind "$a(") refl h f) (no (char ")" or blank)) refl g
 
-    pub suffix-open : sees (char ")") (drop e s) ≡ false → Ends s from e 20
+    pub suffix-open : sees (char ")") (drop e s) ≡ false → Ends s from e unclosedRule
     unfolding behind rules operators isDigit isHexdigit isIdentifierStart isIdentifierContinue isBlank
     suffix-open n =
-        reads-stop suffix-reads (char ")" or no (char ")" or blank)) 20 refl refl (misses-or _ _ _ n (over-stops _ _ _ _ g))
+        reads-stop suffix-reads (char ")" or no (char ")" or blank)) unclosedRule refl refl (misses-or _ _ _ n (over-stops _ _ _ _ g))
 
-    pub suffix-closed : sees (char ")") (drop e s) ≡ true → {i : ℕ} → i ≡ moved e s → Ends s from i 11
+    pub suffix-closed : sees (char ")") (drop e s) ≡ true → {i : ℕ} → i ≡ moved e s → Ends s from i parameterRule
     unfolding behind rules operators isDigit isHexdigit isIdentifierStart isIdentifierContinue isBlank
-    suffix-closed n k = reads-stop (reads-eat suffix-reads (char ")") (behind "$a()") refl n k) none 11 refl refl (misses-none _)
+    suffix-closed n k = reads-stop (reads-eat suffix-reads (char ")") (behind "$a()") refl n k) none parameterRule refl refl (misses-none _)

@@ -6,15 +6,17 @@ use mathlib.Core.List.{List, [], _∷_}
 use lib.Dec.{eqb}
 use lib.ListN.{drop}
 use borrow.Author.Tests.{eqb-true, eqb-false}
+use Rattle.keywords.specs.Kinds.{kind}
 use Rattle.keywords.proofs.Logic.{split}
 use Rattle.words.specs.Bytes.{isDigit, isHexdigit, isIdentifierStart, isIdentifierContinue, isBlank}
 use Rattle.grammar.specs.Form.{none, H, byte, no, _or_, any, oneOf, holds}
 use Rattle.grammar.specs.Classes.{operators, rules}
 use Rattle.grammar.specs.Answers.{answer}
-use Rattle.grammar.specs.Runs.{char, sees, run, moved, over}
+use Rattle.grammar.specs.Runs.{char, sees, moved, over}
 use Rattle.grammar.proofs.States.{State, start, after, met}
 use Rattle.grammar.proofs.Seen.{misses-none, at-end, over-stops, misses-or, misses-any}
 use Rattle.grammar.proofs.Walk.{goes, meets, along, alternate, alternate-even, alternate-odd}
+use Rattle.grammar.proofs.RulePlaces.{stringRule, quotedNameRule, blobRule, openQuoteRule, openBlobRule, oddBlobRule}
 use Rattle.grammar.proofs.Reading.{Reads, Ends, behind, spelled-first, spelled-reads, reads-alternate, reads-eat}
 use Rattle.grammar.proofs.Reading.{reads-while, reads-join, reads-stop, reads-end}
 use Rattle.lexer.specs.declared.lexed.Refusal.the-variants.{UnrecognizedToken, UnterminatedLiteral}
@@ -35,7 +37,7 @@ outQuote q = after (start rules) (q ∷ q ∷ [])
 
 -- the rule of what q closes
 abbrev closed : ℕ → ℕ
-closed q = cond (eqb q 39) 6 7
+closed q = cond (eqb q 39) stringRule quotedNameRule
 
 abbrev pub isQuote : ℕ → Bool
 isQuote q = holds (oneOf "'\"`") q
@@ -46,7 +48,7 @@ record Quote (q : ℕ) : Type 0 where
   again : goes (outQuote q) (byte q) (inQuote q) && meets (inQuote q) ≡ true
   close : goes (inQuote q) (byte q) (outQuote q) && meets (outQuote q) ≡ true
   after-it : goes (outQuote q) (no (byte q)) [] ≡ true
-  open-rule : met (inQuote q) ≡ 16 ∷ []
+  open-rule : met (inQuote q) ≡ openQuoteRule ∷ []
   closed-rule : met (outQuote q) ≡ closed q ∷ []
 
 string-quote : Quote 39
@@ -76,9 +78,9 @@ module _ (q : ℕ) (i : isQuote q ≡ true) {s : List ℕ} {from : ℕ} where
   unfolding inQuote
   quote-opens h f = spelled-reads (spelled-first q s from h f) (quote q i .first)
 
-  pub quote-open : {at d : ℕ} → Reads s from at (inQuote q) → d ≡ over (no (byte q)) at s → sees (byte q) (drop d s) ≡ false → Ends s from d 16
+  pub quote-open : {at d : ℕ} → Reads s from at (inQuote q) → d ≡ over (no (byte q)) at s → sees (byte q) (drop d s) ≡ false → Ends s from d openQuoteRule
   quote-open p f h =
-      reads-end (reads-while p (no (byte q)) (quote q i .body) f) 16 (quote q i .open-rule) (at-end (byte q) _ h (over-stops _ _ _ _ f))
+      reads-end (reads-while p (no (byte q)) (quote q i .body) f) openQuoteRule (quote q i .open-rule) (at-end (byte q) _ h (over-stops _ _ _ _ f))
 
   pub quote-found : {at d : ℕ} → Reads s from at (inQuote q) → Reached q s at d → Reads s from d (outQuote q)
   quote-found p r = reads-eat (reads-while p (no (byte q)) (quote q i .body) (r .run)) (byte q) (outQuote q) (quote q i .close) (r .seen) (r .next)
@@ -89,7 +91,7 @@ module _ (q : ℕ) (i : isQuote q ≡ true) {s : List ℕ} {from : ℕ} where
   pub quote-again : {at d : ℕ} → Reads s from at (outQuote q) → sees (byte q) (drop at s) ≡ true → d ≡ moved at s → Reads s from d (inQuote q)
   quote-again p h f = reads-eat p (byte q) (inQuote q) (quote q i .again) h f
 
-pub open-lexed : {s : List ℕ} {from at : ℕ} → Ends s from at 16 → (r : Lexed) → r ≡ Refused UnterminatedLiteral from (at - from) (cursor from)
+pub open-lexed : {s : List ℕ} {from at : ℕ} → Ends s from at openQuoteRule → (r : Lexed) → r ≡ Refused UnterminatedLiteral from (at - from) (cursor from)
     → Lexes s from r
 unfolding rules answer
 open-lexed e r f = whole-lexes e UnterminatedLiteral r refl f
@@ -116,32 +118,32 @@ module _ {s : List ℕ} {from at : ℕ} (p : Reads s from at (behind "x'")) {d :
   odd-read e = subst (Reads s from d) (alternate-odd (behind "x'11") (behind "x'1") (d - at) e) digits-read
 
   -- no quote follows
-  pub blob-open : sees (char "'") (drop d s) ≡ false → Ends s from d 17
+  pub blob-open : sees (char "'") (drop d s) ≡ false → Ends s from d openBlobRule
   unfolding behind rules operators isDigit isHexdigit isIdentifierStart isIdentifierContinue isBlank
   blob-open h =
       let m = misses-or H (char "'") (drop d s) (over-stops _ _ _ _ f) h in
       split (eqb ((d - at) % 2) 0)
-      (λ e. reads-stop (even-read (eqb-true _ _ e)) (H or char "'") 17 refl refl m)
-      (λ e. reads-stop (odd-read (eqb-false _ _ e)) (H or char "'") 17 refl refl m)
+      (λ e. reads-stop (even-read (eqb-true _ _ e)) (H or char "'") openBlobRule refl refl m)
+      (λ e. reads-stop (odd-read (eqb-false _ _ e)) (H or char "'") openBlobRule refl refl m)
 
   module _ (h : sees (char "'") (drop d s) ≡ true) {e : ℕ} (g : e ≡ moved d s) where
-    pub blob-odd : ((d - at) % 2 ≡ 0 → ⊥) → Ends s from e 18
+    pub blob-odd : ((d - at) % 2 ≡ 0 → ⊥) → Ends s from e oddBlobRule
     unfolding behind rules operators isDigit isHexdigit isIdentifierStart isIdentifierContinue isBlank
-    blob-odd o = reads-stop (reads-eat (odd-read o) (char "'") (behind "x'1'") refl h g) none 18 refl refl (misses-none _)
+    blob-odd o = reads-stop (reads-eat (odd-read o) (char "'") (behind "x'1'") refl h g) none oddBlobRule refl refl (misses-none _)
 
-    pub blob-even : (d - at) % 2 ≡ 0 → Ends s from e 10
+    pub blob-even : (d - at) % 2 ≡ 0 → Ends s from e blobRule
     unfolding behind rules operators isDigit isHexdigit isIdentifierStart isIdentifierContinue isBlank
-    blob-even o = reads-stop (reads-eat (even-read o) (char "'") (behind "x''") refl h g) none 10 refl refl (misses-none _)
+    blob-even o = reads-stop (reads-eat (even-read o) (char "'") (behind "x''") refl h g) none blobRule refl refl (misses-none _)
 
 module _ {s : List ℕ} {from at : ℕ} (r : Lexed) where
-  pub blob-open-lexed : Ends s from at 17 → r ≡ Refused UnterminatedLiteral from (at - from) (cursor from) → Lexes s from r
+  pub blob-open-lexed : Ends s from at openBlobRule → r ≡ Refused UnterminatedLiteral from (at - from) (cursor from) → Lexes s from r
   unfolding rules answer
   blob-open-lexed e f = whole-lexes e UnterminatedLiteral r refl f
 
-  pub blob-odd-lexed : Ends s from at 18 → r ≡ Refused UnrecognizedToken from (at - from) (cursor from) → Lexes s from r
+  pub blob-odd-lexed : Ends s from at oddBlobRule → r ≡ Refused UnrecognizedToken from (at - from) (cursor from) → Lexes s from r
   unfolding rules answer
   blob-odd-lexed e f = whole-lexes e UnrecognizedToken r refl f
 
-  pub blob-lexed : Ends s from at 10 → r ≡ Token 33 from (at - from) (cursor at) → Lexes s from r
+  pub blob-lexed : Ends s from at blobRule → r ≡ Token (kind "TK_BLOB") from (at - from) (cursor at) → Lexes s from r
   unfolding rules answer
-  blob-lexed e f = token-lexes e 33 r refl f
+  blob-lexed e f = token-lexes e (kind "TK_BLOB") r refl f

@@ -1,9 +1,11 @@
 -- For readers. `unique`: two answers of `next` that meet its contract are equal. `table-lexed`: `next` answers what the grammar's table
--- says. `moves` (Moves.antt): a token leads on, inside the text. Assumes nothing.
+-- says. `not-one`: no one answer is right everywhere. `moves` (Moves.antt): a token leads on, inside the text. Assumes nothing.
 use Prim.Native.Nat.{ℕ}
+use native.Mathlib.Omega.{arith}
 use mathlib.Core.Path.{_≡_, refl, sym, _∙_, ap}
 use mathlib.Core.List.{List, [], _∷_}
-use lib.ListN.{getD}
+use mathlib.Core.Logic.{inl, inr}
+use lib.ListN.{length, getD}
 use Rattle.grammar.specs.Classes.{rules}
 use Rattle.grammar.specs.Answers.{Answer, token, end, refusal}
 use Rattle.grammar.specs.Texts.{Row, offset, Walks, Every, table}
@@ -67,3 +69,14 @@ table-lexed = every-row table texts
     every-row : (l : List Row) → Every (λ r. Walks rules (r .text) (r .from) (r .answers)) l → Every (λ r. Tells (r .text) (r .from) (r .answers)) l
     every-row [] e = tt
     every-row (r ∷ l) e = (walks-tell (r .text) (r .answers) (r .from) (e .0), every-row l (e .1))
+
+-- No one answer meets the contract everywhere: no fixed token, no fixed refusal.
+pub not-one : (r : Lexed) → ((s : List ℕ) (at : ℕ) → Lexes s at r) → ⊥
+unfolding Lexes
+not-one r g = ends-apart (sym (at-end [] refl) ∙ at-end (97 ∷ []) refl)
+  where
+    at-end : (s : List ℕ) {at : ℕ} → at ≡ length s → valuesOf r ≡ end at
+    at-end s {at} e = gives-unique rules s at (valuesOf r) (end at) (g s at) (inr (inl (e, refl)))
+
+    ends-apart : end 0 ≡ end 1 → ⊥
+    ends-apart e = let z : _≡_ {A = ℕ} 0 1 = cc in omega arith

@@ -5,7 +5,7 @@ use std::fs;
 use std::io;
 use std::path::Path;
 
-/// What a record may hold.
+/// The longest text that `sqlnext` takes.
 pub const LONGEST: usize = 65_536;
 
 #[derive(Default)]
@@ -40,7 +40,7 @@ impl Corpus {
     pub fn cut(&self, r: &mut Random, most: usize) -> &[u8] {
         let part = &self.0[r.below(self.0.len())];
         let from = r.below(part.len());
-        let length = r.size(most).min(part.len() - from);
+        let length = (1 + r.below(most)).min(part.len() - from);
         &part[from..from + length]
     }
 }

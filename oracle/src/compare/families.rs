@@ -19,8 +19,8 @@ pub struct Family<'a> {
 pub fn all(count: u64, corpus: &Corpus) -> Vec<Family<'_>> {
     let share = count / 16;
     let mut families = vec![
-        random("uniform bytes", share, |r, text| (0..r.size(24)).for_each(|_| text.push(r.byte()))),
-        random("special bytes", 2 * share, |r, text| (0..r.size(16)).for_each(|_| text.push(r.byte_of(SPECIAL)))),
+        random("uniform bytes", share, |r, text| (0..=r.below(24)).for_each(|_| text.push(r.byte()))),
+        random("special bytes", 2 * share, |r, text| (0..=r.below(16)).for_each(|_| text.push(r.byte_of(SPECIAL)))),
         random("lexemes", 3 * share, several_lexemes),
         random("keywords", share, lexemes::keyword),
         random("statements", share, statements::any),
@@ -66,7 +66,7 @@ fn every<'a>(name: &str, alphabet: Vec<u8>, most: u64) -> Family<'a> {
 }
 
 fn several_lexemes(r: &mut Random, text: &mut Vec<u8>) {
-    for _ in 0..r.size(8) {
+    for _ in 0..=r.below(8) {
         lexemes::any(r, text);
     }
 }

@@ -42,7 +42,7 @@ impl Random {
         self.next() as u8
     }
 
-    /// A number up to most, the small ones more often: as many of 1 digit as of 2, of 2 as of 3.
+    /// A number up to most, the small ones more often: one below a power of two, each power as often as the next.
     pub fn size(&mut self, most: usize) -> usize {
         let bits = self.below(most.ilog2() as usize + 2);
         self.below(1 << bits).min(most)
