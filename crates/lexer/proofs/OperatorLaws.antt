@@ -56,6 +56,7 @@ follow w =
     (cond (same w (bytes ">")) (char "=" or char ">")
     (cond (same w (bytes "|")) (char "|") (cond (same w (bytes "&")) (char "&") (cond (same w (bytes ".")) D none))))))))
 
+-- k is the list's one entry
 abbrev isOne : ℕ → List ℕ → Bool
 isOne k [] = false
 isOne k (j ∷ []) = eqb j k
@@ -66,16 +67,19 @@ one-is k [] e = absurd (true≢false (sym e))
 one-is k (j ∷ []) e = rw (eqb-true j k e)
 one-is k (j ∷ i ∷ l) e = absurd (true≢false (sym e))
 
+-- some rule is met behind each byte of w, behind the last that of the operators, and only the bytes of `follow` go on
 abbrev fits : List ℕ → Bool
 fits w = along (start rules) w && goes (after (start rules) w) (no (follow w)) [] && isOne operatorRule (met (after (start rules) w))
 
 abbrev pub isColon : List ℕ → Bool
 isColon w = same w (bytes ":")
 
+-- all operators, by one computed test
 all-fit : every (λ (e : Entry). isColon (e .word) || fits (e .word)) operators ≡ true
 unfolding follow rules operators isDigit isHexdigit isIdentifierStart isIdentifierContinue isBlank
 all-fit = refl
 
+-- w is an operator of the list
 unfoldable pub isOperator : List ℕ → List Entry → Bool
 isOperator w [] = false
 isOperator w (e ∷ l) = same w (e .word) || isOperator w l
