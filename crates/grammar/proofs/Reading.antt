@@ -21,7 +21,7 @@ use Rattle.grammar.proofs.States.{State, ruleAt, start, after, met}
 use Rattle.grammar.proofs.Model.{Found, nothing, found, here, onward, scan, given, Right, scan-right}
 use Rattle.grammar.proofs.Lexemes.{next-gives}
 use Rattle.grammar.proofs.Theorems.{sound}
-use Rattle.grammar.proofs.Seen.{moved-one, seen-cons, seen-holds}
+use Rattle.grammar.proofs.Seen.{moved-one, seen-cons, seen-holds, pair-seen}
 use Rattle.grammar.proofs.Walk.{ends, goes, meets, isFound, scan-found, ends-step, ends-run, joins, scan-join, scan-stop, alternate}
 use Rattle.grammar.proofs.Walk.{ends-alternate, scan-joined, paired, scan-pair, twice, scan-no-pair, unpaired, along, ends-along}
 
@@ -99,13 +99,10 @@ module _ {s : List ℕ} {from at : ℕ} {q : State} (p : Reads s from at q) wher
 
   -- a pair is eaten
   pub reads-pair : (m r : State) → paired q m r ≡ true → seesPair (drop at s) ≡ true → {d e : ℕ} → d ≡ moved at s → e ≡ moved d s → Reads s from e r
-  unfolding seesPair
   reads-pair m r g h {d} {e} f i =
-      let a = sees (char ":") (drop at s) in
-      let x = and-left a (sees (char ":") (drop 1 (drop at s))) h in
-      let y = and-right a (sees (char ":") (drop 1 (drop at s))) h in
+      let (x, y) = pair-seen s at h in
       let n : d ≡ at + 1 = f ∙ moved-one (char ":") s at x in
-      let z : sees (char ":") (drop d s) ≡ true = rw (n, ← drop-drop 1 at s) y in
+      let z : sees (char ":") (drop d s) ≡ true = rw n y in
       let k : e ≡ at + 2 = i ∙ moved-one (char ":") s d z ∙ omega arith in
       let o = p .ordered in
       let w : d + 1 ≡ e = omega arith in
@@ -120,12 +117,8 @@ module _ {s : List ℕ} {from at : ℕ} {q : State} (p : Reads s from at q) wher
       }
 
   pub reads-joined-pair : (m r u : State) → paired q m u ≡ true → paired r m u ≡ true → seesPair (drop at s) ≡ true → Reads s from at r
-  unfolding seesPair
   reads-joined-pair m r u g i h =
-      let a = sees (char ":") (drop at s) in
-      let x = and-left a (sees (char ":") (drop 1 (drop at s))) h in
-      let y = and-right a (sees (char ":") (drop 1 (drop at s))) h in
-      let z : sees (char ":") (drop (at + 1) s) ≡ true = rw (← drop-drop 1 at s) y in
+      let (x, z) = pair-seen s at h in
       let b = getD s at 0 in
       let c = getD s (at + 1) 0 in
       let l = drop (at + 1 + 1) s in

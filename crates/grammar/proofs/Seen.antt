@@ -12,7 +12,7 @@ use lib.ListN.{length, drop, getD, drop-of-length-le}
 use lib.Seq.{drop-cons, drop-drop}
 use Rattle.keywords.proofs.Logic.{split, and-left, and-right}
 use Rattle.grammar.specs.Form.{Set, none, any, no, _or_, _except_, holds}
-use Rattle.grammar.specs.Runs.{sees, runLength, moved, optional, over}
+use Rattle.grammar.specs.Runs.{char, sees, runLength, moved, optional, over, seesPair}
 use Rattle.grammar.proofs.High.{plainSet, low, low-set, low-small}
 use Rattle.grammar.proofs.Reach.{below, below-at}
 
@@ -20,14 +20,7 @@ pub implied : (a b : Bool) → not a || b ≡ true → a ≡ true → b ≡ true
 implied true b e h = e
 implied false b e h = absurd (true≢false (sym h))
 
--- the text behind a byte that is seen
-pub seen-cons : (t : Set) (s : List ℕ) (at : ℕ) → sees t (drop at s) ≡ true → drop at s ≡ getD s at 0 ∷ drop (at + 1) s
-unfolding sees
-seen-cons t s at e =
-    split (ltb at (length s))
-    (λ l. rw add-one (drop-cons s at 0 (ltb-true at (length s) l)))
-    (λ l. absurd (true≢false (sym e ∙ ap (sees t) (drop-of-length-le s (ltb-false at (length s) l)))))
-
+-- a byte that is seen stands in the text, with the rest behind it
 pub seen-in : (t : Set) (s : List ℕ) (at : ℕ) → sees t (drop at s) ≡ true → at < length s
 unfolding sees
 seen-in t s at e =
@@ -35,9 +28,20 @@ seen-in t s at e =
     (λ l. ltb-true at (length s) l)
     (λ l. absurd (true≢false (sym e ∙ ap (sees t) (drop-of-length-le s (ltb-false at (length s) l)))))
 
+pub seen-cons : (t : Set) (s : List ℕ) (at : ℕ) → sees t (drop at s) ≡ true → drop at s ≡ getD s at 0 ∷ drop (at + 1) s
+seen-cons t s at e = rw add-one (drop-cons s at 0 (seen-in t s at e))
+
 pub seen-holds : (t : Set) (s : List ℕ) (at : ℕ) → sees t (drop at s) ≡ true → holds t (getD s at 0) ≡ true
 unfolding sees
 seen-holds t s at e = sym (ap (sees t) (seen-cons t s at e)) ∙ e
+
+-- both bytes of a pair
+pub pair-seen : (s : List ℕ) (at : ℕ) → seesPair (drop at s) ≡ true → (sees (char ":") (drop at s) ≡ true) × (sees (char ":") (drop (at + 1) s) ≡ true)
+unfolding seesPair
+pair-seen s at h =
+    let a = sees (char ":") (drop at s) in
+    let b = sees (char ":") (drop 1 (drop at s)) in
+    (and-left a b h, rw (← drop-drop 1 at s) (and-right a b h))
 
 run-stops : (t : Set) (l : List ℕ) → sees t (drop (runLength t l) l) ≡ false
 unfolding sees runLength

@@ -8,10 +8,10 @@ use mathlib.Core.Bool.{Bool, true, false, true≢false}
 use mathlib.Core.List.{List, [], _∷_}
 use lib.ListN.{length, getD, drop, drop-of-length-le}
 use lib.Seq.{drop-cons, drop-drop}
-use Rattle.keywords.proofs.Logic.{split, and-left}
+use Rattle.keywords.proofs.Logic.{split}
 use Rattle.grammar.specs.Form.{Set, byte, no, _or_, holds}
 use Rattle.grammar.specs.Runs.{char, seesPair, sees, runLength, moved, optional, over}
-use Rattle.grammar.proofs.Seen.{moved-one, optional-one, over-on, moved-up, seen-in}
+use Rattle.grammar.proofs.Seen.{moved-one, optional-one, over-on, moved-up, seen-in, pair-seen}
 use Rattle.lexer.specs.declared.cursor.Peek.the-variants.{Byte, Nothing}
 use Rattle.lexer.specs.declared.cursor.Past.{Past}
 use Rattle.lexer.specs.declared.cursor.Past.the-variants.{Found, Missed}
@@ -70,9 +70,8 @@ unfolding seesPair
 pair-second s at d b e f g = rw (← e) (g ∙ rw (f, moved-one (char ":") s at (sym e), ← drop-drop 1 at s))
 
 pub pair-on : (s : List ℕ) (at : ℕ) → seesPair (drop at s) ≡ true → {d e : ℕ} → d ≡ moved at s → e ≡ moved d s → (at < e) × (at < length s)
-unfolding seesPair
 pair-on s at h {d} {e} f g =
-    let x = and-left (sees (char ":") (drop at s)) (sees (char ":") (drop 1 (drop at s))) h in
+    let x = pair-seen s at h .0 in
     let n = moved-one (char ":") s at x in
     let m = moved-up s d e g in
     (omega arith, seen-in (char ":") s at x)

@@ -54,7 +54,7 @@ module _ (t : Set) (g i : ℕ) where
   groups-more [] d e f = absurd (true≢false (sym e))
   groups-more (b ∷ l) d e f = rw (d, e, f)
 
--- a group of a runLength, from its start g to d
+-- a group of a run, from its start g to d
 module _ (t : Set) (s : List ℕ) (g d : ℕ) (e : d ≡ over t g s) where
   to-end : groups t g g (drop g s) ≡ groups t g d (drop d s)
   unfolding over

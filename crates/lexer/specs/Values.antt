@@ -10,6 +10,7 @@ use Rattle.lexer.specs.declared.lexed.Refusal.the-variants.{BadExponentP
 use Rattle.lexer.specs.declared.lexed.Lexed.{Lexed}
 use Rattle.lexer.specs.declared.lexed.Lexed.the-variants.{Token, End, Refused}
 
+-- a refusal's number
 abbrev pub numberOf : Refusal → ℕ
 numberOf UnrecognizedToken = refusalNumber "UnrecognizedToken"
 numberOf UnterminatedLiteral = refusalNumber "UnterminatedLiteral"
@@ -20,6 +21,7 @@ numberOf MalformedHexInteger = refusalNumber "MalformedHexInteger"
 numberOf ExpectedEqualsSign = refusalNumber "ExpectedEqualsSign"
 numberOf OffsetPastEnd = refusalNumber "OffsetPastEnd"
 
+-- an answer's values; the offset is where its cursor stands
 abbrev pub valuesOf : Lexed → Answer
 valuesOf (Token kind start length next) = token kind start length (next .at)
 valuesOf (End next) = end (next .at)
