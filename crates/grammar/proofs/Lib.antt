@@ -9,6 +9,7 @@ pub mod ClassLaws
 pub mod Unique
 pub mod Lexemes
 pub mod Theorems
+pub mod Tokens
 pub mod Unrecognized
 pub mod Equal
 pub mod TextLaws

@@ -13,7 +13,7 @@ use Rattle.words.specs.Bytes.{isDigit, isHexdigit, isIdentifierStart, isIdentif
 use Rattle.words.specs.Word.{upper, kindOf}
 use Rattle.grammar.specs.Form.{Set, holds, Has}
 use Rattle.grammar.specs.Classes.{Class, Rule, operators, rules}
-use Rattle.grammar.specs.Answers.{Answer, token, end, refusal, refusalNames, answer}
+use Rattle.grammar.specs.Answers.{Answer, token, end, refusal, refusalNumber, answer}
 use Rattle.grammar.specs.Longest.{Follows, Stands, Gives}
 use Rattle.grammar.specs.Texts
 use Rattle.grammar.specs.Texts.{Row, Every, Walks, table, Unfit, unfits}
@@ -57,7 +57,7 @@ texts = every-row table computed
 abbrev known : Answer → Bool
 known (token k start n next) = ltb k (length kindNames)
 known (end at) = true
-known (refusal k start n at) = leb k (length refusalNames)
+known (refusal k start n at) = leb k (refusalNumber "OffsetPastEnd")
 
 pub table-known : every (λ r. every known (r .answers)) table ≡ true
 unfolding table

@@ -20,11 +20,11 @@ pub data Answer : Type 0 where
   end : (offset : ℕ) → Answer
   refusal : (number start length offset : ℕ) → Answer
 
--- document 01's refusals of Next, numbered from 1
+-- document 01's refusals, numbered from 1; Next has those up to OffsetPastEnd, List the last two besides
 abbrev pub refusalNames : List String
 refusalNames =
     "UnrecognizedToken" ∷ "UnterminatedLiteral" ∷ "BadNumber" ∷ "BadFractionalPart" ∷ "BadExponentPart" ∷
-    "MalformedHexInteger" ∷ "ExpectedEqualsSign" ∷ "OffsetPastEnd" ∷
+    "MalformedHexInteger" ∷ "ExpectedEqualsSign" ∷ "OffsetPastEnd" ∷ "TooLong" ∷ "ListFull" ∷
     []
 
 abbrev pub refusalNumber : String → ℕ
