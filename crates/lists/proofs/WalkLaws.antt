@@ -1,0 +1,94 @@
+-- A walk passes one lexeme more; two walks from a place are the same; a walk leads on. Assumes nothing.
+use Prim.Native.Nat.{ℕ, _+_, _≤_}
+use native.Mathlib.Omega.{arith}
+use mathlib.Core.Path.{_≡_, refl, sym, _∙_, ap, subst}
+use mathlib.Core.List.{List, [], _∷_, _++_, append-assoc, append-nil}
+use lib.ListN.{length}
+use Rattle.grammar.specs.Classes.{rules}
+use Rattle.grammar.specs.Answers.{Answer, token, end, refusal}
+use Rattle.grammar.specs.Longest.{Gives}
+use Rattle.grammar.proofs.Unique.{gives-unique}
+use Rattle.grammar.proofs.Tokens.{Told, told}
+use Rattle.lexer.specs.declared.cursor.Cursor.{Cursor}
+use Rattle.lexer.specs.declared.lexed.Lexed.the-variants.{Token}
+use Rattle.lexer.specs.Values.{Lexes}
+use Rattle.lists.specs.Walk.{Legal, tokenOf, Goes, Passes, Walk}
+
+-- a lexeme by its numbers
+abbrev pub legal : ℕ → ℕ → ℕ → Legal
+legal k start n = record { kind = k; start = start; length = n }
+
+-- what `next` says of a token, as the walk's next lexeme
+pub token-told : (s : List ℕ) (at k start n : ℕ) (next : Cursor) → Lexes s at (Token k start n next) → Told s at k start n (next .at)
+unfolding Lexes
+token-told s at k start n next h = told s at k start n (next .at) h
+
+pub token-legal : (s : List ℕ) (at k start n : ℕ) (next : Cursor) → Lexes s at (Token k start n next)
+    → Gives rules s at (tokenOf (legal k start n))
+unfolding Lexes
+token-legal s at k start n next h =
+    let t = token-told s at k start n next h in
+    subst (λ (x : ℕ). Gives rules s at (token k start n x)) (t .goes ∙ ap (λ (a : ℕ). a + n) (sym (t .starts))) h
+
+-- one lexeme more
+pub passes-on : (goes : Goes) (s : List ℕ) (before : List Legal) (from : ℕ) (l : List Legal) (to : ℕ) (t : Legal)
+    → Passes goes s before from l to → t .start ≡ to → Gives rules s to (tokenOf t) → goes (before ++ l) t
+    → Passes goes s before from (l ++ (t ∷ [])) (to + t .length)
+unfolding Passes
+passes-on goes s before from [] to t p e g o = (
+  e ∙ sym p,
+  subst (λ (a : ℕ). Gives rules s a (tokenOf t)) (sym p) g,
+  subst (λ (b : List Legal). goes b t) (append-nil before) o,
+  ap (λ (a : ℕ). a + t .length) p,
+)
+passes-on goes s before from (u ∷ l) to t (e, g, o, p) f h q =
+    let q′ = subst (λ (b : List Legal). goes b t) (sym (append-assoc before (u ∷ []) l)) q in
+    (e, g, o, passes-on goes s (before ++ (u ∷ [])) (from + u .length) l to t p f h q′)
+
+-- it never leads back
+pub passes-ahead : (goes : Goes) (s : List ℕ) (before : List Legal) (from : ℕ) (l : List Legal) (to : ℕ)
+    → Passes goes s before from l to → from ≤ to
+unfolding Passes
+passes-ahead goes s before from [] to p = omega (arith, p)
+passes-ahead goes s before from (t ∷ l) to (e, g, o, p) =
+    let i = passes-ahead goes s (before ++ (t ∷ [])) (from + t .length) l to p in
+    omega arith
+
+-- a lexeme can be read back from what Next gives for it
+abbrev legalOf : Answer → Legal
+legalOf (token k start n next) = legal k start n
+legalOf (end offset) = legal 0 0 0
+legalOf (refusal k start n offset) = legal 0 0 0
+
+-- nothing goes on from here
+abbrev Stuck : Goes → Answer → List Legal → Type 0
+Stuck goes there l = (t : Legal) → there ≡ tokenOf t → goes l t → ⊥
+
+module _ (goes : Goes) (s : List ℕ) where
+  -- where one walk has stopped, no other goes on
+  stuck-there : (before : List Legal) (from to : ℕ) (there : Answer) (t : Legal) → from ≡ to → Gives rules s to there
+      → Stuck goes there (before ++ []) → Gives rules s from (tokenOf t) → goes before t → ⊥
+  stuck-there before from to there t p g st h o =
+      st t (gives-unique rules s from there (tokenOf t) (subst (λ (a : ℕ). Gives rules s a there) (sym p) g) h)
+      (subst (λ (b : List Legal). goes b t) (sym (append-nil before)) o)
+
+  passes-one : (before : List Legal) (from : ℕ) (l m : List Legal) (to to′ : ℕ) (there there′ : Answer)
+      → Passes goes s before from l to → Passes goes s before from m to′ → Gives rules s to there → Gives rules s to′ there′
+      → Stuck goes there (before ++ l) → Stuck goes there′ (before ++ m) → (l ≡ m) × (to ≡ to′)
+  unfolding Passes
+  passes-one before from [] [] to to′ there there′ p q g h st st′ = (refl, sym p ∙ q)
+  passes-one before from [] (t ∷ m) to to′ there there′ p (e, k, o, q) g h st st′ = absurd (stuck-there before from to there t p g st k o)
+  passes-one before from (t ∷ l) [] to to′ there there′ (e, k, o, p) q g h st st′ = absurd (stuck-there before from to′ there′ t q h st′ k o)
+  passes-one before from (t ∷ l) (u ∷ m) to to′ there there′ (e, k, o, p) (e′, k′, o′, q) g h st st′ =
+      let same : t ≡ u = ap legalOf (gives-unique rules s from (tokenOf t) (tokenOf u) k k′) in
+      let q′ = subst (λ (v : Legal). Passes goes s (before ++ (v ∷ [])) (from + v .length) m to′) (sym same) q in
+      let st₁ = subst (Stuck goes there) (sym (append-assoc before (t ∷ []) l)) st in
+      let st₂ = subst (Stuck goes there′) (sym (append-assoc before (t ∷ []) m) ∙ refl) (subst (λ (v : Legal). Stuck goes there′ (before ++ (v ∷ m))) (sym same) st′) in
+      let i = passes-one (before ++ (t ∷ [])) (from + t .length) l m to to′ there there′ p q′ g h st₁ st₂ in
+      (ap (λ (x : List Legal). t ∷ x) (i .0) ∙ ap (λ (v : Legal). v ∷ m) same, i .1)
+
+  -- Two walks from a place pass the same lexemes, end at the same place, and stop at the same answer.
+  pub walk-one : (from : ℕ) (w v : Walk goes s from) → (w .passed ≡ v .passed) × (w .to ≡ v .to) × (w .there ≡ v .there)
+  walk-one from w v =
+      let i = passes-one [] from (w .passed) (v .passed) (w .to) (v .to) (w .there) (v .there) (w .passes) (v .passes) (w .gives) (v .gives) (w .stops) (v .stops) in
+      (i .0, i .1, gives-unique rules s (v .to) (w .there) (v .there) (subst (λ (a : ℕ). Gives rules s a (w .there)) (i .1) (w .gives)) (v .gives))

@@ -1,0 +1,3 @@
+pub mod Walk
+pub mod Lists
+pub mod Cuts

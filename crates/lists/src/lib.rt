@@ -1,0 +1,3 @@
+// Above the lexer: the records of a text into a lent list, and the cut into statements. Both walk `lexer::next`.
+pub mod cut;
+pub mod list;
