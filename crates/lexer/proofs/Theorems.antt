@@ -20,14 +20,14 @@ use Rattle.lexer.specs.Eaten.{cursor}
 use Rattle.lexer.specs.Values.{numberOf, valuesOf, Lexes}
 
 -- An answer can be read back from its values.
-abbrev refusalOf : ℕ → Refusal
+abbrev pub refusalOf : ℕ → Refusal
 refusalOf n =
     getD
     (OffsetPastEnd ∷ UnrecognizedToken ∷ UnterminatedLiteral ∷ BadNumber ∷ BadFractionalPart ∷ BadExponentPart ∷ MalformedHexInteger ∷ ExpectedEqualsSign ∷ [])
     n
     OffsetPastEnd
 
-refusal-back : (w : Refusal) → refusalOf (numberOf w) ≡ w
+pub refusal-back : (w : Refusal) → refusalOf (numberOf w) ≡ w
 refusal-back UnrecognizedToken = refl
 refusal-back UnterminatedLiteral = refl
 refusal-back BadNumber = refl

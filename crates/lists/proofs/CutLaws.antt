@@ -1,8 +1,8 @@
 -- Where `cut` stands in its loop, and what it answers from there. Assumes nothing.
-use Prim.Native.Nat.{ℕ, _+_, _-_, _≤_, _<_}
+use Prim.Native.Nat.{ℕ, _-_, _≤_}
 use native.Mathlib.Omega.{arith}
 use mathlib.Core.Path.{_≡_, refl, sym, _∙_, ap, subst}
-use mathlib.Core.Bool.{Bool, true, false, cond, _||_, not}
+use mathlib.Core.Bool.{Bool, true, false, _||_}
 use mathlib.Core.List.{List, [], _∷_, _++_}
 use mathlib.Core.Logic.{⊎-elim}
 use lib.Dec.{T, eqb, eqb→eq}
@@ -22,8 +22,8 @@ use denote.Enum.Declared.{tagOf}
 use Rattle.lexer.specs.declared.lexed.Lexed.the-variants.{Token, End as Over, Refused as Bad}
 use Rattle.lexer.specs.Values.{Lexes, numberOf}
 use Rattle.lists.specs.declared.cut.Statement.{Statement}
-use Rattle.lists.specs.declared.cut.Statement.the-variants.{Cut, Open, End, Refused}
-use Rattle.lists.specs.Walk.{Legal, tokenOf, Goes, Passes, Walk}
+use Rattle.lists.specs.declared.cut.Statement.the-variants.{Cut, Refused}
+use Rattle.lists.specs.Walk.{Legal, tokenOf, Passes}
 use Rattle.lists.specs.Cuts.{CutAnswer, NoSemi, counts, hasToken, cutAnswer, Cutting, valuesOf, Cuts}
 use Rattle.lists.proofs.WalkLaws.{legal, token-told, token-legal, passes-on, passes-ahead}
 

@@ -1,3 +1,5 @@
 pub mod WalkLaws
 pub mod ListLaws
 pub mod CutLaws
+pub mod GaplessLaws
+pub mod Theorems

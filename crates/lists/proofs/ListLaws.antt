@@ -3,21 +3,20 @@ use Prim.Native.Nat.{ℕ, _+_, _-_, _*_, _≤_, _<_}
 use native.Mathlib.Omega.{arith}
 use native.Mathlib.Numerals.{add-one, add-two}
 use mathlib.Core.Path.{_≡_, refl, sym, _∙_, ap, subst}
-use mathlib.Core.List.{List, [], _∷_, _++_, append-assoc, append-nil}
+use mathlib.Core.List.{List, [], _∷_, _++_, append-assoc}
 use mathlib.Core.Logic.{inl, inr}
 use lib.ListN.{length, drop, take, length-append, length-drop}
 use lib.Seq.{sets, sets-eq, take-at, drop-append-add, drop-drop}
 use Rattle.grammar.specs.Classes.{rules}
-use Rattle.grammar.specs.Answers.{Answer, token, end, refusal}
+use Rattle.grammar.specs.Answers.{Answer, token, end}
 use Rattle.grammar.specs.Longest.{Gives}
 use Rattle.lexer.specs.declared.cursor.Cursor.{Cursor}
 use Rattle.lexer.specs.declared.lexed.Refusal.{Refusal}
 use Rattle.lexer.specs.declared.lexed.Lexed.the-variants.{Token, End as Over, Refused as Bad}
 use Rattle.lexer.specs.Values.{Lexes, valuesOf}
-use Rattle.lists.specs.declared.list.Listed.{Listed}
 use Rattle.lists.specs.declared.list.Listed.the-variants.{End, Refused, TooLong, ListFull}
-use Rattle.lists.specs.Walk.{Legal, tokenOf, Goes, Passes, Walk}
-use Rattle.lists.specs.Lists.{recordOf, recordsOf, HasRoom, listAnswer, longest, Listing, answerOf, countOf, Lists, put}
+use Rattle.lists.specs.Walk.{Legal, tokenOf, Passes}
+use Rattle.lists.specs.Lists.{recordOf, recordsOf, HasRoom, listAnswer, longest, Listing, Lists, put}
 use Rattle.lists.proofs.WalkLaws.{legal, token-told, token-legal, passes-on}
 
 pub records-append : (l m : List Legal) → recordsOf (l ++ m) ≡ recordsOf l ++ recordsOf m

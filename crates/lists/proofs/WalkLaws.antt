@@ -1,24 +1,33 @@
 -- A walk passes one lexeme more; two walks from a place are the same; a walk leads on. Assumes nothing.
-use Prim.Native.Nat.{ℕ, _+_, _≤_}
+use Prim.Native.Nat.{ℕ, zero, suc, _+_, _≤_, _<_}
 use native.Mathlib.Omega.{arith}
 use mathlib.Core.Path.{_≡_, refl, sym, _∙_, ap, subst}
 use mathlib.Core.List.{List, [], _∷_, _++_, append-assoc, append-nil}
+use lib.Dec.{T, eqb, eqb→eq, eqb-refl}
 use lib.ListN.{length}
+use Rattle.keywords.proofs.Logic.{split}
 use Rattle.grammar.specs.Classes.{rules}
 use Rattle.grammar.specs.Answers.{Answer, token, end, refusal}
 use Rattle.grammar.specs.Longest.{Gives}
 use Rattle.grammar.proofs.Unique.{gives-unique}
+use Rattle.grammar.proofs.Theorems.{gives-one}
 use Rattle.grammar.proofs.Tokens.{Told, told}
 use Rattle.lexer.specs.declared.cursor.Cursor.{Cursor}
 use Rattle.lexer.specs.declared.lexed.Lexed.the-variants.{Token}
 use Rattle.lexer.specs.Values.{Lexes}
-use Rattle.lists.specs.Walk.{Legal, tokenOf, Goes, Passes, Walk}
+use Rattle.lists.specs.Walk.{Legal, tokenOf, Goes, Always, Passes, Walk}
 
 -- a lexeme by its numbers
 abbrev pub legal : ℕ → ℕ → ℕ → Legal
 legal k start n = record { kind = k; start = start; length = n }
 
--- what `next` says of a token, as the walk's next lexeme
+-- a token that Next gives is that of such a lexeme
+pub is-legal : (s : List ℕ) (at k start n next : ℕ) → Gives rules s at (token k start n next) → token k start n next ≡ tokenOf (legal k start n)
+is-legal s at k start n next g =
+    let o = told s at k start n next g in
+    ap (token k start n) (o .goes ∙ ap (λ (a : ℕ). a + n) (sym (o .starts)))
+
+-- the same of `next`
 pub token-told : (s : List ℕ) (at k start n : ℕ) (next : Cursor) → Lexes s at (Token k start n next) → Told s at k start n (next .at)
 unfolding Lexes
 token-told s at k start n next h = told s at k start n (next .at) h
@@ -26,9 +35,7 @@ token-told s at k start n next h = told s at k start n (next .at) h
 pub token-legal : (s : List ℕ) (at k start n : ℕ) (next : Cursor) → Lexes s at (Token k start n next)
     → Gives rules s at (tokenOf (legal k start n))
 unfolding Lexes
-token-legal s at k start n next h =
-    let t = token-told s at k start n next h in
-    subst (λ (x : ℕ). Gives rules s at (token k start n x)) (t .goes ∙ ap (λ (a : ℕ). a + n) (sym (t .starts))) h
+token-legal s at k start n next h = subst (Gives rules s at) (is-legal s at k start n (next .at) h) h
 
 -- one lexeme more
 pub passes-on : (goes : Goes) (s : List ℕ) (before : List Legal) (from : ℕ) (l : List Legal) (to : ℕ) (t : Legal)
@@ -92,3 +99,42 @@ module _ (goes : Goes) (s : List ℕ) where
   walk-one from w v =
       let i = passes-one [] from (w .passed) (v .passed) (w .to) (v .to) (w .there) (v .there) (w .passes) (v .passes) (w .gives) (v .gives) (w .stops) (v .stops) in
       (i .0, i .1, gives-unique rules s (v .to) (w .there) (v .there) (subst (λ (a : ℕ). Gives rules s a (w .there)) (i .1) (w .gives)) (v .gives))
+
+-- two numbers that cannot differ are equal
+pub known : (m n : ℕ) → ((m ≡ n → ⊥) → ⊥) → m ≡ n
+known m n f =
+    split (eqb m n)
+    (λ e. eqb→eq m n (subst T (sym e) tt))
+    (λ e. absurd (f (λ p. subst T e (subst (λ (x : ℕ). T (eqb m x)) p (eqb-refl m)))))
+
+-- the rest of a walk that passes every lexeme
+abbrev Rest : List ℕ → List Legal → ℕ → Type 0
+Rest s before at = (l : List Legal) × (to : ℕ) × (there : Answer) × Passes Always s before at l to × Gives rules s to there × Stuck Always there (before ++ l)
+
+-- from a place on: nothing more, or a lexeme and the rest behind it
+rest-by : (s : List ℕ) (before : List Legal) (at : ℕ) (a : Answer) → Gives rules s at a
+    → ((t : Legal) → 0 < t .length → at + t .length ≤ length s → Rest s (before ++ (t ∷ [])) (at + t .length)) → Rest s before at
+unfolding Passes
+rest-by s before at (end offset) g more = ([], at, end offset, refl, g, λ t e o. let z : _≡_ {A = ℕ} 0 1 = cc in omega arith)
+rest-by s before at (refusal k start n offset) g more =
+    ([], at, refusal k start n offset, refl, g, λ t e o. let z : _≡_ {A = ℕ} 0 1 = cc in omega arith)
+rest-by s before at (token k start n next) g more =
+    let o = told s at k start n next g in
+    let t = legal k start n in
+    let b = o .goes in
+    let i = o .inside in
+    let (l, to, there, p, h, st) = more t (o .some) (omega arith) in
+    let g′ = subst (Gives rules s at) (is-legal s at k start n next g) g in
+    (t ∷ l, to, there, (o .starts, g′, tt, p), h, subst (Stuck Always there) (append-assoc before (t ∷ []) l) st)
+
+rest-from : (fuel : ℕ) (s : List ℕ) (before : List Legal) (at : ℕ) → length s ≤ at + fuel → Rest s before at
+rest-from zero s before at h = let g = gives-one s at in rest-by s before at (g .0) (g .1) (λ t p q. absurd (omega arith))
+rest-from (suc fuel) s before at h =
+    let g = gives-one s at in
+    rest-by s before at (g .0) (g .1) (λ t p q. rest-from fuel s (before ++ (t ∷ [])) (at + t .length) (omega arith))
+
+-- A walk that passes every lexeme comes to its end, since none is empty.
+pub run : (s : List ℕ) (from : ℕ) → Walk Always s from
+run s from =
+    let (l, to, there, p, g, st) = rest-from (length s) s [] from (omega arith) in
+    record { passed = l; to = to; passes = p; there = there; gives = g; stops = st }

@@ -1,13 +1,12 @@
 -- What the statement cut owes. Assumes nothing.
 use Prim.Native.Nat.{ℕ, _-_}
 use mathlib.Core.Path.{_≡_}
-use mathlib.Core.Bool.{Bool, true, false, cond, _||_, not}
+use mathlib.Core.Bool.{Bool, true, false, _||_, not}
 use mathlib.Core.List.{List, [], _∷_}
 use lib.Dec.{eqb}
 use lib.ListN.{length}
 use Rattle.keywords.specs.Kinds.{kind}
 use Rattle.grammar.specs.Answers.{Answer, token, end, refusal}
-use Rattle.lexer.specs.declared.cursor.Cursor.{Cursor}
 use Rattle.lexer.specs.Values.{numberOf}
 use Rattle.lists.specs.declared.cut.Statement.{Statement}
 use Rattle.lists.specs.declared.cut.Statement.the-variants.{Cut, Open, End, Refused}

@@ -1,0 +1,182 @@
+-- For readers. `longest-in-exactly-one-class`: demand 3 of List. `list-unique`, `cut-unique`: two answers that meet a contract, and two lists,
+-- are equal. `reaches-the-end`: where List is not refused, its lexemes lead to the text's length. `too-long`, `past-end`: the refusals
+-- that come first. `one-run`: every text, of any length, has one run of lexemes from every offset. Assumes nothing.
+use Prim.Native.Nat.{ℕ, _+_, _-_, _≤_, _<_}
+use native.Mathlib.Omega.{arith}
+use mathlib.Core.Path.{_≡_, refl, sym, _∙_, ap, subst, subst₂}
+use mathlib.Core.Bool.{Bool, true, false, cond}
+use mathlib.Core.List.{List, [], _++_}
+use mathlib.Core.Logic.{inl, inr}
+use lib.Dec.{eqb}
+use lib.ListN.{length, drop}
+use Rattle.keywords.specs.Kinds.{kind}
+use Rattle.grammar.specs.Classes.{rules}
+use Rattle.grammar.specs.Answers.{Answer, token, end, refusal, refusalNumber}
+use Rattle.grammar.specs.Longest.{Gives}
+use Rattle.grammar.proofs.Tokens.{told}
+use Rattle.lexer.specs.declared.cursor.Cursor.{Cursor}
+use Rattle.lexer.specs.declared.lexed.Refusal.{Refusal}
+use Rattle.lexer.specs.declared.lexed.Refusal.the-variants.{UnrecognizedToken, UnterminatedLiteral, BadNumber, BadFractionalPart}
+use Rattle.lexer.specs.declared.lexed.Refusal.the-variants.{BadExponentPart, MalformedHexInteger, ExpectedEqualsSign, OffsetPastEnd}
+use Rattle.lexer.specs.Eaten.{cursor}
+use Rattle.lexer.specs.Values.{numberOf}
+use Rattle.lexer.proofs.Theorems.{refusalOf, refusal-back}
+use Rattle.lists.specs.declared.list.Listed.{Listed}
+use Rattle.lists.specs.declared.list.Listed.the-variants.{End, Refused, TooLong, ListFull}
+use Rattle.lists.specs.declared.cut.Statement.{Statement}
+use Rattle.lists.specs.declared.cut.Statement.the-variants.{Cut, Open, End as Over, Refused as Bad}
+use Rattle.lists.specs.Walk.{Legal, tokenOf, Always, Passes, Walk}
+use Rattle.lists.specs.Lists.{recordsOf, HasRoom, listAnswer, longest, Listing, ListGives, answerOf, countOf, Lists}
+use Rattle.lists.specs.Cuts.{CutAnswer, cut, opened, ended, refused, NoSemi, hasToken, cutAnswer, valuesOf, Cuts}
+use Rattle.lists.specs.Gapless.{Follow, Ends, Gapless}
+use Rattle.lists.proofs.WalkLaws.{legal, is-legal, known, passes-ahead, walk-one, run}
+use Rattle.lists.proofs.GaplessLaws.{gapless}
+
+-- Demand 3.
+pub longest-in-exactly-one-class : (s : List ℕ) (from : ℕ) (old : List ℕ) (r : Listed) (new : List ℕ) → length s ≤ longest
+    → Lists s from old r new → Gapless s from old (answerOf r) (countOf r) new
+unfolding Lists
+longest-in-exactly-one-class s from old r new h (inl (l, x, y, z)) = absurd (omega arith)
+longest-in-exactly-one-class s from old r new h (inr (l, x)) = gapless s from old (answerOf r) (countOf r) new x
+
+-- An answer of List can be read back from its values.
+abbrev refusedOf : ℕ → ℕ → ℕ → ℕ → ℕ → Listed
+refusedOf k start n offset records =
+    cond (eqb k (refusalNumber "TooLong")) (TooLong (cursor offset))
+    (cond (eqb k (refusalNumber "ListFull")) (ListFull records (cursor offset)) (Refused (refusalOf k) start n records (cursor offset)))
+
+abbrev listedOf : Answer → ℕ → Listed
+listedOf (token k start n next) records = End records (cursor next)
+listedOf (end offset) records = End records (cursor offset)
+listedOf (refusal k start n offset) records = refusedOf k start n offset records
+
+refused-back : (why : Refusal) (start n records : ℕ) (next : Cursor) → refusedOf (numberOf why) start n (next .at) records ≡ Refused why start n records next
+refused-back UnrecognizedToken start n records next = refl
+refused-back UnterminatedLiteral start n records next = refl
+refused-back BadNumber start n records next = refl
+refused-back BadFractionalPart start n records next = refl
+refused-back BadExponentPart start n records next = refl
+refused-back MalformedHexInteger start n records next = refl
+refused-back ExpectedEqualsSign start n records next = refl
+refused-back OffsetPastEnd start n records next = refl
+
+listed-back : (r : Listed) → listedOf (answerOf r) (countOf r) ≡ r
+listed-back (End records next) = refl
+listed-back (Refused why start n records next) = refused-back why start n records next
+listed-back (TooLong next) = refl
+listed-back (ListFull records next) = refl
+
+listing-unique : (s : List ℕ) (from : ℕ) (old : List ℕ) (a b : Answer) (m n : ℕ) (new new′ : List ℕ)
+    → Listing s from old a m new → Listing s from old b n new′ → (a ≡ b) × (m ≡ n) × (new ≡ new′)
+listing-unique s from old a b m n new new′ x y =
+    let (p, q, t) = walk-one (HasRoom (length old)) s from (x .walk) (y .walk) in (
+      x .answers ∙ ap (λ (at : ℕ). listAnswer at (x .walk .there)) q ∙ ap (listAnswer (y .walk .to)) t ∙ sym (y .answers),
+      x .counts ∙ ap length p ∙ sym (y .counts),
+      x .written ∙ ap (λ (l : List Legal). recordsOf l ++ drop (length (recordsOf l)) old) p ∙ sym (y .written),
+    )
+
+gives-unique : (s : List ℕ) (from : ℕ) (old : List ℕ) (a b : Answer) (m n : ℕ) (new new′ : List ℕ)
+    → ListGives s from old a m new → ListGives s from old b n new′ → (a ≡ b) × (m ≡ n) × (new ≡ new′)
+gives-unique s from old a b m n new new′ (inl (h, x, y, z)) (inl (k, u, v, w)) = (x ∙ sym u, y ∙ sym v, z ∙ sym w)
+gives-unique s from old a b m n new new′ (inl (h, x, y, z)) (inr (k, u)) = absurd (omega arith)
+gives-unique s from old a b m n new new′ (inr (h, x)) (inl (k, u, v, w)) = absurd (omega arith)
+gives-unique s from old a b m n new new′ (inr (h, x)) (inr (k, y)) = listing-unique s from old a b m n new new′ x y
+
+-- The contract of `list` leaves one answer and one list.
+pub list-unique : (s : List ℕ) (from : ℕ) (old : List ℕ) (r q : Listed) (new new′ : List ℕ)
+    → Lists s from old r new → Lists s from old q new′ → (r ≡ q) × (new ≡ new′)
+unfolding Lists
+list-unique s from old r q new new′ x y =
+    let (a, m, e) = gives-unique s from old (answerOf r) (answerOf q) (countOf r) (countOf q) new new′ x y in
+    (sym (listed-back r) ∙ ap (λ (b : Answer). listedOf b (countOf r)) a ∙ ap (listedOf (answerOf q)) m ∙ listed-back q, e)
+
+-- An answer of the cut can be read back from its values.
+abbrev statementOf : CutAnswer → Statement
+statementOf (cut start n tokens offset) = Cut start n tokens (cursor offset)
+statementOf (opened start n offset) = Open start n (cursor offset)
+statementOf (ended start n offset) = Over (cursor offset)
+statementOf (refused number start n offset) = Bad (refusalOf number) start n (cursor offset)
+
+statement-back : (r : Statement) → statementOf (valuesOf r) ≡ r
+statement-back (Cut start n tokens next) = refl
+statement-back (Open start n next) = refl
+statement-back (Over next) = refl
+statement-back (Bad why start n next) = ap (λ (w : Refusal). Bad w start n next) (refusal-back why)
+
+-- The contract of `cut` leaves one answer.
+pub cut-unique : (s : List ℕ) (from : ℕ) (r q : Statement) → Cuts s from r → Cuts s from q → r ≡ q
+unfolding Cuts
+cut-unique s from r q x y =
+    let (p, e, t) = walk-one NoSemi s from (x .walk) (y .walk) in
+    let same : valuesOf r ≡ valuesOf q =
+    x .answers ∙ ap (λ (l : List Legal). cutAnswer from (hasToken l) (x .walk .there)) p ∙
+    ap (cutAnswer from (hasToken (y .walk .passed))) t ∙ sym (y .answers) in
+    sym (statement-back r) ∙ ap statementOf same ∙ statement-back q
+
+-- A text that is too long is refused first; the list stays as it was.
+pub too-long : (s : List ℕ) (from : ℕ) (old : List ℕ) (r : Listed) (new : List ℕ) → longest < length s → Lists s from old r new
+    → (r ≡ TooLong (cursor from)) × (new ≡ old)
+unfolding Lists
+too-long s from old r new h x = list-unique s from old r (TooLong (cursor from)) new old x (inl (h, refl, refl, refl))
+
+-- Then an offset past the end; the list stays as it was.
+pub past-end : (s : List ℕ) (from : ℕ) (old : List ℕ) (r : Listed) (new : List ℕ) → length s ≤ longest → length s < from
+    → Lists s from old r new → (r ≡ Refused OffsetPastEnd 0 0 0 (cursor from)) × (new ≡ old)
+unfolding Lists Passes recordsOf
+past-end s from old r new short h x =
+    let past = refusal (refusalNumber "OffsetPastEnd") 0 0 from in
+    let walk : Walk (HasRoom (length old)) s from =
+    record { passed = []; to = from; passes = refl; there = past; gives = inl (h, refl); stops = λ t e o. apart e } in
+    let listing : Listing s from old past 0 old = record { walk = walk; answers = refl; counts = refl; written = refl } in
+    list-unique s from old r (Refused OffsetPastEnd 0 0 0 (cursor from)) new old x (inr (short, listing))
+  where
+    apart : {t : Legal} {at : ℕ} → refusal (refusalNumber "OffsetPastEnd") 0 0 at ≡ tokenOf t → ⊥
+    apart e = let z : _≡_ {A = ℕ} 0 1 = cc in omega arith
+
+ends-so : (s : List ℕ) (numbers : ℕ) (l : List Legal) (to offset : ℕ) → Ends s numbers l to (end offset) → (offset ≡ to) × (to ≡ length s)
+ends-so s numbers l to offset (inl (h, e)) = let z : _≡_ {A = ℕ} 0 1 = cc in absurd (omega arith)
+ends-so s numbers l to offset (inr (inl (h, e))) = (cc, h)
+ends-so s numbers l to offset (inr (inr (inl (k, start, m, o, n, e, c)))) = let z : _≡_ {A = ℕ} 0 1 = cc in absurd (omega arith)
+ends-so s numbers l to offset (inr (inr (inr (t, c, f, e)))) = let z : _≡_ {A = ℕ} 0 1 = cc in absurd (omega arith)
+
+-- Where no refusal comes, the lexemes lead to the text's length.
+pub reaches-the-end : (s : List ℕ) (from : ℕ) (old : List ℕ) (n : ℕ) (next : Cursor) (new : List ℕ) → Lists s from old (End n next) new
+    → (next .at ≡ length s) × (l : List Legal) × Follow from l (length s) × (n ≡ length l)
+unfolding Lists
+reaches-the-end s from old n next new (inl (h, e, f, g)) = let z : _≡_ {A = ℕ} 0 1 = cc in absurd (omega arith)
+reaches-the-end s from old n next new (inr (h, x)) =
+    let g = gapless s from old (end (next .at)) n new x in
+    let (o, e) = ends-so s (length old) (g .lexemes) (g .to) (next .at) (g .ends) in
+    (o ∙ e, g .lexemes, subst (Follow from (g .lexemes)) e (g .follow), g .counted)
+
+-- What ends a cut is a semicolon, up to and with which its span goes.
+pub cut-ends-with-semi : (s : List ℕ) (from start n : ℕ) (tokens : Bool) (next : Cursor) → Cuts s from (Cut start n tokens next)
+    → (t : Legal) × Gives rules s (t .start) (tokenOf t) × (t .kind ≡ kind "TK_SEMI") × (start ≡ from) × (start + n ≡ t .start + t .length)
+unfolding Cuts
+cut-ends-with-semi s from start n tokens next x = by-answer (x .walk .there) (x .walk .gives) (x .walk .stops) (x .answers)
+  where
+    not-at-end : (b : Bool) (offset : ℕ) → cut start n tokens (next .at) ≡ cutAnswer from b (end offset) → ⊥
+    not-at-end true offset e = let z : _≡_ {A = ℕ} 0 1 = cc in omega arith
+    not-at-end false offset e = let z : _≡_ {A = ℕ} 0 1 = cc in omega arith
+
+    by-answer : (a : Answer) → Gives rules s (x .walk .to) a → ((t : Legal) → a ≡ tokenOf t → NoSemi (x .walk .passed) t → ⊥)
+        → cut start n tokens (next .at) ≡ cutAnswer from (hasToken (x .walk .passed)) a
+        → (t : Legal) × Gives rules s (t .start) (tokenOf t) × (t .kind ≡ kind "TK_SEMI") × (start ≡ from) × (start + n ≡ t .start + t .length)
+    by-answer (token k begin m behind) g stuck e =
+        let o = told s (x .walk .to) k begin m behind g in
+        let t = legal k begin m in
+        let same = is-legal s (x .walk .to) k begin m behind g in
+        let semi = known k (kind "TK_SEMI") (stuck t same) in
+        let ahead = passes-ahead NoSemi s [] from (x .walk .passed) (x .walk .to) (x .walk .passes) in
+        let p : start ≡ from = cc in
+        let q : n ≡ behind - from = cc in
+        let b = o .goes in
+        let c = o .starts in
+        (t, subst₂ (Gives rules s) (sym c) same g, semi, p, omega arith)
+    by-answer (end offset) g stuck e = absurd (not-at-end (hasToken (x .walk .passed)) offset e)
+    by-answer (refusal k begin m offset) g stuck e = let z : _≡_ {A = ℕ} 0 1 = cc in absurd (omega arith)
+
+-- Every text, of any length, has one run of lexemes from every offset: up to the end, or to the first refusal.
+pub one-run : (s : List ℕ) (from : ℕ)
+    → (w : Walk Always s from) × ((v : Walk Always s from) → (v .passed ≡ w .passed) × (v .to ≡ w .to) × (v .there ≡ w .there))
+one-run s from = let w = run s from in (w, λ v. walk-one Always s from v w)

@@ -1,0 +1,41 @@
+-- Demand 3 of List, in its own words: from any offset the lexemes follow one another without gap or overlap up to the first refusal or the
+-- end; each is the longest opening of the remaining text that stands in any class, legal or malformed; it stands in exactly one, and that
+-- class gives the answer. Assumes nothing.
+use Prim.Native.Nat.{ℕ, _+_, _<_}
+use mathlib.Core.Path.{_≡_}
+use mathlib.Core.List.{List, [], _∷_, _++_}
+use mathlib.Core.Logic.{_⊎_}
+use lib.ListN.{length, take, drop}
+use Rattle.grammar.specs.Classes.{Class, rules}
+use Rattle.grammar.specs.Answers.{Answer, end, refusal, refusalNumber, answer}
+use Rattle.grammar.specs.Longest.{Longest}
+use Rattle.grammar.specs.Texts.{Every}
+use Rattle.lists.specs.Walk.{Legal, tokenOf}
+use Rattle.lists.specs.Lists.{recordsOf, HasRoom}
+
+-- the first n bytes at a place are the longest opening that stands in any class; they stand in exactly one, and that class answers a
+abbrev pub InOneClass : List ℕ → ℕ → ℕ → Answer → Type 0
+InOneClass s at n a = (c : Class) × Longest rules (drop at s) c n × (a ≡ answer c at (take n (drop at s)))
+
+-- the lexemes follow one another from one place to another, without gap or overlap; none is empty
+unfoldable pub Follow : ℕ → List Legal → ℕ → Type 0
+Follow from [] to = from ≡ to
+Follow from (t ∷ l) to = (t .start ≡ from) × (0 < t .length) × Follow (from + t .length) l to
+
+-- where they end: past the end of the text, at its end, at a malformed lexeme, or at a legal one for which there is no room
+abbrev pub Ends : List ℕ → ℕ → List Legal → ℕ → Answer → Type 0
+Ends s numbers lexemes to a =
+    ((length s < to) × (a ≡ refusal (refusalNumber "OffsetPastEnd") 0 0 to)) ⊎
+    ((to ≡ length s) × (a ≡ end to)) ⊎
+    ((number : ℕ) × (start : ℕ) × (m : ℕ) × (offset : ℕ) × (n : ℕ) × (a ≡ refusal number start m offset) × InOneClass s to n a) ⊎
+    ((t : Legal) × InOneClass s to (t .length) (tokenOf t) × (HasRoom numbers lexemes t → ⊥) × (a ≡ refusal (refusalNumber "ListFull") to 0 to))
+
+-- the whole: the answer and the records written belong to such lexemes, and the list begins with their records
+pub record Gapless (s : List ℕ) (from : ℕ) (old : List ℕ) (a : Answer) (records : ℕ) (new : List ℕ) : Type 0 where
+  pub lexemes : List Legal
+  pub to : ℕ
+  pub follow : Follow from lexemes to
+  pub each : Every (λ t. InOneClass s (t .start) (t .length) (tokenOf t)) lexemes
+  pub ends : Ends s (length old) lexemes to a
+  pub counted : records ≡ length lexemes
+  pub written : new ≡ recordsOf lexemes ++ drop (length (recordsOf lexemes)) old
