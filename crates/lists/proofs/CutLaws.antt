@@ -5,6 +5,8 @@ use mathlib.Core.Path.{_≡_, refl, sym, _∙_, ap, subst}
 use mathlib.Core.Bool.{Bool, true, false, _||_}
 use mathlib.Core.List.{List, [], _∷_, _++_}
 use mathlib.Core.Logic.{⊎-elim}
+use types.Run.{OneOf}
+use denote.Enum.Declared.{tagOf}
 use lib.Dec.{T, eqb, eqb→eq}
 use lib.ListN.{length}
 use Rattle.keywords.specs.Kinds.{kind}
@@ -16,16 +18,14 @@ use Rattle.grammar.proofs.Tokens.{end-told}
 use Rattle.lexer.specs.declared.cursor.Cursor.{Cursor}
 use Rattle.lexer.specs.declared.lexed.Refusal.{Refusal}
 use Rattle.lexer.specs.declared.lexed.Lexed.{Lexed}
-use Rattle.lexer.proofs.lexed.Lexed as Lexed-is
-use types.Run.{OneOf}
-use denote.Enum.Declared.{tagOf}
 use Rattle.lexer.specs.declared.lexed.Lexed.the-variants.{Token, End as Over, Refused as Bad}
 use Rattle.lexer.specs.Values.{Lexes, numberOf}
+use Rattle.lexer.proofs.lexed.Lexed as Lexed-is
 use Rattle.lists.specs.declared.cut.Statement.{Statement}
 use Rattle.lists.specs.declared.cut.Statement.the-variants.{Cut, Refused}
 use Rattle.lists.specs.Walk.{Legal, tokenOf, Passes}
 use Rattle.lists.specs.Cuts.{CutAnswer, NoSemi, counts, hasToken, cutAnswer, Cutting, valuesOf, Cuts}
-use Rattle.lists.proofs.WalkLaws.{legal, token-told, token-legal, passes-on, passes-ahead}
+use Rattle.lists.proofs.WalkLaws.{legal, token-passes, end-no-token, refusal-no-token, passes-ahead}
 
 pub counts-other : (k : ℕ) (b : Bool) → (k ≡ kind "TK_NONE" → ⊥) → true ≡ counts k || b
 counts-other k b other =
@@ -36,7 +36,8 @@ counts-other k b other =
 has-one-more : (l : List Legal) (t : Legal) → hasToken (l ++ (t ∷ [])) ≡ counts (t .kind) || hasToken l
 unfolding hasToken
 has-one-more [] t = refl
-has-one-more (u ∷ l) t = ap (λ (b : Bool). counts (u .kind) || b) (has-one-more l t) ∙ or-swap (counts (u .kind)) (counts (t .kind)) (hasToken l)
+has-one-more (u ∷ l) t =
+    ap (λ (b : Bool). counts (u .kind) || b) (has-one-more l t) ∙ or-swap (counts (u .kind)) (counts (t .kind)) (hasToken l)
   where
     or-swap : (a b c : Bool) → (a || (b || c)) ≡ (b || (a || c))
     or-swap true true c = refl
@@ -58,14 +59,13 @@ module _ {s : List ℕ} {from at : ℕ} {tokens : Bool} (v : Uncut s from at tok
   pub ahead : from ≤ at
   ahead = passes-ahead NoSemi s [] from (v .passed) at (v .passes)
 
-  pub onward : (k start m : ℕ) (next : Cursor) → Lexes s at (Token k start m next) → (k ≡ kind "TK_SEMI" → ⊥) → (more : Bool) → more ≡ counts k || tokens
-      → Uncut s from (next .at) more
+  pub onward : (k start m : ℕ) (next : Cursor) → Lexes s at (Token k start m next) → (k ≡ kind "TK_SEMI" → ⊥)
+      → (more : Bool) → more ≡ counts k || tokens → Uncut s from (next .at) more
   onward k start m next h other more e =
       let t = legal k start m in
-      let o = token-told s at k start m next h in
       record {
         passed = v .passed ++ (t ∷ []);
-        passes = subst (Passes NoSemi s [] from (v .passed ++ (t ∷ []))) (sym (o .goes)) (passes-on NoSemi s [] from (v .passed) at t (v .passes) (o .starts) (token-legal s at k start m next h) other);
+        passes = token-passes NoSemi s from (v .passed) at k start m next (v .passes) h other;
         has = e ∙ ap (λ (b : Bool). counts k || b) (v .has) ∙ sym (has-one-more (v .passed) t);
       }
 
@@ -81,23 +81,29 @@ module _ {s : List ℕ} {from at : ℕ} {tokens : Bool} (v : Uncut s from at tok
   pub semi-cuts : (k start m : ℕ) (next : Cursor) → Lexes s at (Token k start m next) → k ≡ kind "TK_SEMI"
       → Cuts s from (Cut from (next .at - from) tokens next)
   unfolding Lexes Cuts
-  semi-cuts k start m next g e = cutting (token k start m (next .at)) g (λ t p other. let same : t .kind ≡ k = cc in other (same ∙ e))
+  semi-cuts k start m next g e =
+      cutting (token k start m (next .at)) g (λ t p other. let same : t .kind ≡ k = cc in other (same ∙ e))
 
   pub refusal-cuts : (why : Refusal) (start m : ℕ) (next given : Cursor) → from ≡ given .at → Lexes s at (Bad why start m next)
       → Cuts s from (Refused why start m given)
   unfolding Lexes Cuts
   refusal-cuts why start m next given e g =
       subst (λ (a : ℕ). Cutting s from (CutAnswer.refused (numberOf why) start m a)) e
-      (cutting (refusal (numberOf why) start m (next .at)) g (λ t p other. let z : _≡_ {A = ℕ} 0 1 = cc in omega arith))
+      (cutting (refusal (numberOf why) start m (next .at)) g (λ t p other. refusal-no-token (numberOf why) start m (next .at) t p))
 
-  pub end-cuts : (r : Statement) → at ≡ length s → Gives rules s at (end at) → valuesOf r ≡ cutAnswer from tokens (end (length s)) → Cuts s from r
+  pub end-cuts : (r : Statement) → at ≡ length s → Gives rules s at (end at) → valuesOf r ≡ cutAnswer from tokens (end (length s))
+      → Cuts s from r
   unfolding Cuts
   end-cuts r l g e =
       subst (Cutting s from) (ap (λ (a : ℕ). cutAnswer from tokens (end a)) l ∙ sym e)
-      (cutting (end at) g (λ t p other. let z : _≡_ {A = ℕ} 0 1 = cc in omega arith))
+      (cutting (end at) g (λ t p other. end-no-token at t p))
 
--- the end of the text, which is what is left when `next` gives neither a token nor a refusal
-pub only-end : (s : List ℕ) (at : ℕ) (r : Lexed) → Lexes s at r → OneOf (1 ∷ 2 ∷ []) (tagOf Lexed-is.the-type r) → OneOf (0 ∷ 1 ∷ []) (tagOf Lexed-is.the-type r)
+-- which of `next`'s answers this is: 0 a token, 1 End, 2 a refusal
+abbrev which : Lexed → ℕ
+which r = tagOf Lexed-is.the-type r
+
+-- the end of the text, which is what is left where neither a token nor a refusal is given
+pub only-end : (s : List ℕ) (at : ℕ) (r : Lexed) → Lexes s at r → OneOf (1 ∷ 2 ∷ []) (which r) → OneOf (0 ∷ 1 ∷ []) (which r)
     → (at ≡ length s) × Gives rules s at (end at)
 unfolding Lexes
 only-end s at (Token k start n next) g p q = let z : ⊥ = ⊎-elim (λ e. omega arith) (λ e. omega arith) p in absurd z

@@ -25,14 +25,16 @@ module _ (goes : Goes) (s : List ℕ) where
   unfolding Passes Follow
   passes-follow before from [] to p = p
   passes-follow before from (t ∷ l) to (e, g, o, p) =
-      (e, told s from (t .kind) (t .start) (t .length) (t .start + t .length) g .some, passes-follow (before ++ (t ∷ [])) (from + t .length) l to p)
+      let o = told s from (t .kind) (t .start) (t .length) (t .start + t .length) g in
+      (e, o .some, passes-follow (before ++ (t ∷ [])) (from + t .length) l to p)
 
   passes-each : (before : List Legal) (from : ℕ) (l : List Legal) (to : ℕ) → Passes goes s before from l to
       → Every (λ t. InOneClass s (t .start) (t .length) (tokenOf t)) l
   unfolding Passes
   passes-each before from [] to p = tt
   passes-each before from (t ∷ l) to (e, g, o, p) =
-      (subst (λ (a : ℕ). InOneClass s a (t .length) (tokenOf t)) (sym e) (in-one-class from t g), passes-each (before ++ (t ∷ [])) (from + t .length) l to p)
+      let here = subst (λ (a : ℕ). InOneClass s a (t .length) (tokenOf t)) (sym e) (in-one-class from t g) in
+      (here, passes-each (before ++ (t ∷ [])) (from + t .length) l to p)
 
 -- what stops a walk of List
 stop-ends : (s : List ℕ) (numbers : ℕ) (l : List Legal) (to : ℕ) (there : Answer) → Gives rules s to there
@@ -54,12 +56,13 @@ pub gapless : (s : List ℕ) (from : ℕ) (old : List ℕ) (a : Answer) (records
     → Listing s from old a records new → Gapless s from old a records new
 gapless s from old a records new x =
     let w = x .walk in
+    let ends = stop-ends s (length old) (w .passed) (w .to) (w .there) (w .gives) (w .stops) in
     record {
       lexemes = w .passed;
       to = w .to;
       follow = passes-follow (HasRoom (length old)) s [] from (w .passed) (w .to) (w .passes);
       each = passes-each (HasRoom (length old)) s [] from (w .passed) (w .to) (w .passes);
-      ends = subst (Ends s (length old) (w .passed) (w .to)) (sym (x .answers)) (stop-ends s (length old) (w .passed) (w .to) (w .there) (w .gives) (w .stops));
+      ends = subst (Ends s (length old) (w .passed) (w .to)) (sym (x .answers)) ends;
       counted = x .counts;
       written = x .written;
     }

@@ -13,16 +13,17 @@ use Rattle.grammar.specs.Longest.{Gives}
 use Rattle.lexer.specs.declared.cursor.Cursor.{Cursor}
 use Rattle.lexer.specs.declared.lexed.Refusal.{Refusal}
 use Rattle.lexer.specs.declared.lexed.Lexed.the-variants.{Token, End as Over, Refused as Bad}
-use Rattle.lexer.specs.Values.{Lexes, valuesOf}
+use Rattle.lexer.specs.Values.{Lexes, valuesOf, numberOf}
 use Rattle.lists.specs.declared.list.Listed.the-variants.{End, Refused, TooLong, ListFull}
 use Rattle.lists.specs.Walk.{Legal, tokenOf, Passes}
 use Rattle.lists.specs.Lists.{recordOf, recordsOf, HasRoom, listAnswer, longest, Listing, Lists, put}
-use Rattle.lists.proofs.WalkLaws.{legal, token-told, token-legal, passes-on}
+use Rattle.lists.proofs.WalkLaws.{legal, token-passes, end-no-token, refusal-no-token}
 
-pub records-append : (l m : List Legal) → recordsOf (l ++ m) ≡ recordsOf l ++ recordsOf m
+records-append : (l m : List Legal) → recordsOf (l ++ m) ≡ recordsOf l ++ recordsOf m
 unfolding recordsOf
 records-append [] m = refl
-records-append (t ∷ l) m = ap (λ (x : List ℕ). recordOf t ++ x) (records-append l m) ∙ sym (append-assoc (recordOf t) (recordsOf l) (recordsOf m))
+records-append (t ∷ l) m =
+    ap (λ (x : List ℕ). recordOf t ++ x) (records-append l m) ∙ sym (append-assoc (recordOf t) (recordsOf l) (recordsOf m))
 
 records-one : (l : List Legal) (t : Legal) → recordsOf (l ++ (t ∷ [])) ≡ recordsOf l ++ recordOf t
 unfolding recordsOf
@@ -70,16 +71,18 @@ module _ {s : List ℕ} {from : ℕ} {old out : List ℕ} {at n i : ℕ} (v : In
       → Inside s from old (put out i k start m) (next .at) (n + 1) (i + 3)
   onward k start m next h r =
       let t = legal k start m in
-      let o = token-told s at k start m next h in
       let e = same-long in
       let f = v .filled in
+      let one = records-one (v .passed) t in
       record {
         passed = v .passed ++ (t ∷ []);
-        passes = subst (Passes (HasRoom (length old)) s [] from (v .passed ++ (t ∷ []))) (sym (o .goes)) (passes-on (HasRoom (length old)) s [] from (v .passed) at t (v .passes) (o .starts) (token-legal s at k start m next h) (omega arith));
+        passes = token-passes (HasRoom (length old)) s from (v .passed) at k start m next (v .passes) h (omega arith);
         many = omega (arith, length-append (v .passed) (t ∷ []), v .many);
-        filled = sym (ap length (records-one (v .passed) t) ∙ length-append (recordsOf (v .passed)) (recordOf t) ∙ omega arith);
+        filled = sym (ap length one ∙ length-append (recordsOf (v .passed)) (recordOf t) ∙ omega arith);
         room = omega arith;
-        holds = ap (λ (l : List ℕ). put l i k start m) (v .holds) ∙ put-behind (recordsOf (v .passed)) old i t (sym f) (omega arith) ∙ ap (λ (l : List ℕ). l ++ drop (i + 3) old) (sym (records-one (v .passed) t));
+        holds =
+            ap (λ (l : List ℕ). put l i k start m) (v .holds) ∙ put-behind (recordsOf (v .passed)) old i t (sym f) (omega arith) ∙
+            ap (λ (l : List ℕ). l ++ drop (i + 3) old) (sym one);
       }
 
   -- the walk ends here
@@ -96,21 +99,26 @@ module _ {s : List ℕ} {from : ℕ} {old out : List ℕ} {at n i : ℕ} (v : In
   module _ (short : length s ≤ longest) where
     pub end-lists : (next : Cursor) → Lexes s at (Over next) → Lists s from old (End n next) out
     unfolding Lexes Lists
-    end-lists next g = inr (short, listing (end (next .at)) g (λ t e o. let z : _≡_ {A = ℕ} 0 1 = cc in omega arith))
+    end-lists next g = inr (short, listing (end (next .at)) g (λ t e o. end-no-token (next .at) t e))
 
-    pub refusal-lists : (why : Refusal) (start m : ℕ) (next : Cursor) → Lexes s at (Bad why start m next) → Lists s from old (Refused why start m n next) out
+    pub refusal-lists : (why : Refusal) (start m : ℕ) (next : Cursor) → Lexes s at (Bad why start m next)
+        → Lists s from old (Refused why start m n next) out
     unfolding Lexes Lists
-    refusal-lists why start m next g = inr (short, listing (valuesOf (Bad why start m next)) g (λ t e o. let z : _≡_ {A = ℕ} 0 1 = cc in omega arith))
+    refusal-lists why start m next g =
+        inr (short, listing (valuesOf (Bad why start m next)) g (λ t e o. refusal-no-token (numberOf why) start m (next .at) t e))
 
-    pub full-lists : (here : Cursor) → at ≡ here .at → (k start m : ℕ) (next : Cursor) → Lexes s at (Token k start m next) → length out - i < 3 → Lists s from old (ListFull n here) out
+    pub full-lists : (here : Cursor) → at ≡ here .at → (k start m : ℕ) (next : Cursor) → Lexes s at (Token k start m next)
+        → length out - i < 3 → Lists s from old (ListFull n here) out
     unfolding Lexes Lists
     full-lists here e k start m next g h =
+        let there = token k start m (next .at) in
         let l = same-long in
         let f = v .filled in
         let r = v .room in
-        inr (short, subst (λ (a : ℕ). Listing s from old (listAnswer a (token k start m (next .at))) n out) e (listing (token k start m (next .at)) g (λ t p o. omega arith)))
+        inr (short, subst (λ (a : ℕ). Listing s from old (listAnswer a there) n out) e (listing there g (λ t p o. omega arith)))
 
 -- a text that is too long
-pub too-long-lists : (s : List ℕ) (from : ℕ) (old : List ℕ) (next : Cursor) → from ≡ next .at → longest < length s → Lists s from old (TooLong next) old
+pub too-long-lists : (s : List ℕ) (from : ℕ) (old : List ℕ) (next : Cursor) → from ≡ next .at → longest < length s
+    → Lists s from old (TooLong next) old
 unfolding Lists
 too-long-lists s from old next e h = inl (h, rw e refl, refl, refl)

@@ -29,7 +29,7 @@ use Rattle.lists.specs.Walk.{Legal, tokenOf, Always, Passes, Walk}
 use Rattle.lists.specs.Lists.{recordsOf, HasRoom, listAnswer, longest, Listing, ListGives, answerOf, countOf, Lists}
 use Rattle.lists.specs.Cuts.{CutAnswer, cut, opened, ended, refused, NoSemi, hasToken, cutAnswer, valuesOf, Cuts}
 use Rattle.lists.specs.Gapless.{Follow, Ends, Gapless}
-use Rattle.lists.proofs.WalkLaws.{legal, is-legal, known, passes-ahead, walk-one, run}
+use Rattle.lists.proofs.WalkLaws.{legal, is-legal, refusal-no-token, known, passes-ahead, walk-one, run}
 use Rattle.lists.proofs.GaplessLaws.{gapless}
 
 -- Demand 3.
@@ -50,7 +50,8 @@ listedOf (token k start n next) records = End records (cursor next)
 listedOf (end offset) records = End records (cursor offset)
 listedOf (refusal k start n offset) records = refusedOf k start n offset records
 
-refused-back : (why : Refusal) (start n records : ℕ) (next : Cursor) → refusedOf (numberOf why) start n (next .at) records ≡ Refused why start n records next
+refused-back : (why : Refusal) (start n records : ℕ) (next : Cursor)
+    → refusedOf (numberOf why) start n (next .at) records ≡ Refused why start n records next
 refused-back UnrecognizedToken start n records next = refl
 refused-back UnterminatedLiteral start n records next = refl
 refused-back BadNumber start n records next = refl
@@ -108,10 +109,9 @@ pub cut-unique : (s : List ℕ) (from : ℕ) (r q : Statement) → Cuts s from r
 unfolding Cuts
 cut-unique s from r q x y =
     let (p, e, t) = walk-one NoSemi s from (x .walk) (y .walk) in
-    let same : valuesOf r ≡ valuesOf q =
-    x .answers ∙ ap (λ (l : List Legal). cutAnswer from (hasToken l) (x .walk .there)) p ∙
-    ap (cutAnswer from (hasToken (y .walk .passed))) t ∙ sym (y .answers) in
-    sym (statement-back r) ∙ ap statementOf same ∙ statement-back q
+    let a = ap (λ (l : List Legal). cutAnswer from (hasToken l) (x .walk .there)) p in
+    let b = ap (cutAnswer from (hasToken (y .walk .passed))) t in
+    sym (statement-back r) ∙ ap statementOf (x .answers ∙ a ∙ b ∙ sym (y .answers)) ∙ statement-back q
 
 -- A text that is too long is refused first; the list stays as it was.
 pub too-long : (s : List ℕ) (from : ℕ) (old : List ℕ) (r : Listed) (new : List ℕ) → longest < length s → Lists s from old r new
@@ -124,16 +124,22 @@ pub past-end : (s : List ℕ) (from : ℕ) (old : List ℕ) (r : Listed) (new : 
     → Lists s from old r new → (r ≡ Refused OffsetPastEnd 0 0 0 (cursor from)) × (new ≡ old)
 unfolding Lists Passes recordsOf
 past-end s from old r new short h x =
-    let past = refusal (refusalNumber "OffsetPastEnd") 0 0 from in
-    let walk : Walk (HasRoom (length old)) s from =
-    record { passed = []; to = from; passes = refl; there = past; gives = inl (h, refl); stops = λ t e o. apart e } in
-    let listing : Listing s from old past 0 old = record { walk = walk; answers = refl; counts = refl; written = refl } in
-    list-unique s from old r (Refused OffsetPastEnd 0 0 0 (cursor from)) new old x (inr (short, listing))
+    let here : Listing s from old (refusal (numberOf OffsetPastEnd) 0 0 from) 0 old = record { walk = walk; answers = refl; counts = refl; written = refl } in
+    list-unique s from old r (Refused OffsetPastEnd 0 0 0 (cursor from)) new old x (inr (short, here))
   where
-    apart : {t : Legal} {at : ℕ} → refusal (refusalNumber "OffsetPastEnd") 0 0 at ≡ tokenOf t → ⊥
-    apart e = let z : _≡_ {A = ℕ} 0 1 = cc in omega arith
+    walk : Walk (HasRoom (length old)) s from
+    walk =
+        record {
+          passed = [];
+          to = from;
+          passes = refl;
+          there = refusal (numberOf OffsetPastEnd) 0 0 from;
+          gives = inl (h, refl);
+          stops = λ t e o. refusal-no-token (numberOf OffsetPastEnd) 0 0 from t e;
+        }
 
-ends-so : (s : List ℕ) (numbers : ℕ) (l : List Legal) (to offset : ℕ) → Ends s numbers l to (end offset) → (offset ≡ to) × (to ≡ length s)
+ends-so : (s : List ℕ) (numbers : ℕ) (l : List Legal) (to offset : ℕ) → Ends s numbers l to (end offset)
+    → (offset ≡ to) × (to ≡ length s)
 ends-so s numbers l to offset (inl (h, e)) = let z : _≡_ {A = ℕ} 0 1 = cc in absurd (omega arith)
 ends-so s numbers l to offset (inr (inl (h, e))) = (cc, h)
 ends-so s numbers l to offset (inr (inr (inl (k, start, m, o, n, e, c)))) = let z : _≡_ {A = ℕ} 0 1 = cc in absurd (omega arith)
@@ -150,8 +156,12 @@ reaches-the-end s from old n next new (inr (h, x)) =
     (o ∙ e, g .lexemes, subst (Follow from (g .lexemes)) e (g .follow), g .counted)
 
 -- What ends a cut is a semicolon, up to and with which its span goes.
+abbrev pub ToSemi : List ℕ → ℕ → ℕ → ℕ → Type 0
+ToSemi s from start n =
+    (start ≡ from) × (t : Legal) × Gives rules s (t .start) (tokenOf t) × (t .kind ≡ kind "TK_SEMI") × (start + n ≡ t .start + t .length)
+
 pub cut-ends-with-semi : (s : List ℕ) (from start n : ℕ) (tokens : Bool) (next : Cursor) → Cuts s from (Cut start n tokens next)
-    → (t : Legal) × Gives rules s (t .start) (tokenOf t) × (t .kind ≡ kind "TK_SEMI") × (start ≡ from) × (start + n ≡ t .start + t .length)
+    → ToSemi s from start n
 unfolding Cuts
 cut-ends-with-semi s from start n tokens next x = by-answer (x .walk .there) (x .walk .gives) (x .walk .stops) (x .answers)
   where
@@ -161,7 +171,7 @@ cut-ends-with-semi s from start n tokens next x = by-answer (x .walk .there) (x 
 
     by-answer : (a : Answer) → Gives rules s (x .walk .to) a → ((t : Legal) → a ≡ tokenOf t → NoSemi (x .walk .passed) t → ⊥)
         → cut start n tokens (next .at) ≡ cutAnswer from (hasToken (x .walk .passed)) a
-        → (t : Legal) × Gives rules s (t .start) (tokenOf t) × (t .kind ≡ kind "TK_SEMI") × (start ≡ from) × (start + n ≡ t .start + t .length)
+        → ToSemi s from start n
     by-answer (token k begin m behind) g stuck e =
         let o = told s (x .walk .to) k begin m behind g in
         let t = legal k begin m in
@@ -172,7 +182,7 @@ cut-ends-with-semi s from start n tokens next x = by-answer (x .walk .there) (x 
         let q : n ≡ behind - from = cc in
         let b = o .goes in
         let c = o .starts in
-        (t, subst₂ (Gives rules s) (sym c) same g, semi, p, omega arith)
+        (p, t, subst₂ (Gives rules s) (sym c) same g, semi, omega arith)
     by-answer (end offset) g stuck e = absurd (not-at-end (hasToken (x .walk .passed)) offset e)
     by-answer (refusal k begin m offset) g stuck e = let z : _≡_ {A = ℕ} 0 1 = cc in absurd (omega arith)
 

@@ -22,7 +22,8 @@ abbrev pub legal : ℕ → ℕ → ℕ → Legal
 legal k start n = record { kind = k; start = start; length = n }
 
 -- a token that Next gives is that of such a lexeme
-pub is-legal : (s : List ℕ) (at k start n next : ℕ) → Gives rules s at (token k start n next) → token k start n next ≡ tokenOf (legal k start n)
+pub is-legal : (s : List ℕ) (at k start n next : ℕ) → Gives rules s at (token k start n next)
+    → token k start n next ≡ tokenOf (legal k start n)
 is-legal s at k start n next g =
     let o = told s at k start n next g in
     ap (token k start n) (o .goes ∙ ap (λ (a : ℕ). a + n) (sym (o .starts)))
@@ -51,6 +52,22 @@ passes-on goes s before from [] to t p e g o = (
 passes-on goes s before from (u ∷ l) to t (e, g, o, p) f h q =
     let q′ = subst (λ (b : List Legal). goes b t) (sym (append-assoc before (u ∷ []) l)) q in
     (e, g, o, passes-on goes s (before ++ (u ∷ [])) (from + u .length) l to t p f h q′)
+
+-- the token that `next` gives is one lexeme more
+pub token-passes : (goes : Goes) (s : List ℕ) (from : ℕ) (l : List Legal) (at k start n : ℕ) (next : Cursor)
+    → Passes goes s [] from l at → Lexes s at (Token k start n next) → goes l (legal k start n)
+    → Passes goes s [] from (l ++ (legal k start n ∷ [])) (next .at)
+token-passes goes s from l at k start n next p h o =
+    let t = token-told s at k start n next h in
+    let g = token-legal s at k start n next h in
+    subst (Passes goes s [] from (l ++ (legal k start n ∷ []))) (sym (t .goes)) (passes-on goes s [] from l at (legal k start n) p (t .starts) g o)
+
+-- End and a refusal are no tokens
+pub end-no-token : (offset : ℕ) (t : Legal) → end offset ≡ tokenOf t → ⊥
+end-no-token offset t e = let z : _≡_ {A = ℕ} 0 1 = cc in omega arith
+
+pub refusal-no-token : (k start n offset : ℕ) (t : Legal) → refusal k start n offset ≡ tokenOf t → ⊥
+refusal-no-token k start n offset t e = let z : _≡_ {A = ℕ} 0 1 = cc in omega arith
 
 -- it never leads back
 pub passes-ahead : (goes : Goes) (s : List ℕ) (before : List Legal) (from : ℕ) (l : List Legal) (to : ℕ)
@@ -84,21 +101,27 @@ module _ (goes : Goes) (s : List ℕ) where
       → Stuck goes there (before ++ l) → Stuck goes there′ (before ++ m) → (l ≡ m) × (to ≡ to′)
   unfolding Passes
   passes-one before from [] [] to to′ there there′ p q g h st st′ = (refl, sym p ∙ q)
-  passes-one before from [] (t ∷ m) to to′ there there′ p (e, k, o, q) g h st st′ = absurd (stuck-there before from to there t p g st k o)
-  passes-one before from (t ∷ l) [] to to′ there there′ (e, k, o, p) q g h st st′ = absurd (stuck-there before from to′ there′ t q h st′ k o)
+  passes-one before from [] (t ∷ m) to to′ there there′ p (e, k, o, q) g h st st′ =
+      absurd (stuck-there before from to there t p g st k o)
+  passes-one before from (t ∷ l) [] to to′ there there′ (e, k, o, p) q g h st st′ =
+      absurd (stuck-there before from to′ there′ t q h st′ k o)
   passes-one before from (t ∷ l) (u ∷ m) to to′ there there′ (e, k, o, p) (e′, k′, o′, q) g h st st′ =
       let same : t ≡ u = ap legalOf (gives-unique rules s from (tokenOf t) (tokenOf u) k k′) in
       let q′ = subst (λ (v : Legal). Passes goes s (before ++ (v ∷ [])) (from + v .length) m to′) (sym same) q in
       let st₁ = subst (Stuck goes there) (sym (append-assoc before (t ∷ []) l)) st in
-      let st₂ = subst (Stuck goes there′) (sym (append-assoc before (t ∷ []) m) ∙ refl) (subst (λ (v : Legal). Stuck goes there′ (before ++ (v ∷ m))) (sym same) st′) in
+      let st₂ = subst (λ (v : Legal). Stuck goes there′ (before ++ (v ∷ m))) (sym same) st′ in
+      let st₂ = subst (Stuck goes there′) (sym (append-assoc before (t ∷ []) m)) st₂ in
       let i = passes-one (before ++ (t ∷ [])) (from + t .length) l m to to′ there there′ p q′ g h st₁ st₂ in
       (ap (λ (x : List Legal). t ∷ x) (i .0) ∙ ap (λ (v : Legal). v ∷ m) same, i .1)
 
   -- Two walks from a place pass the same lexemes, end at the same place, and stop at the same answer.
   pub walk-one : (from : ℕ) (w v : Walk goes s from) → (w .passed ≡ v .passed) × (w .to ≡ v .to) × (w .there ≡ v .there)
   walk-one from w v =
-      let i = passes-one [] from (w .passed) (v .passed) (w .to) (v .to) (w .there) (v .there) (w .passes) (v .passes) (w .gives) (v .gives) (w .stops) (v .stops) in
-      (i .0, i .1, gives-unique rules s (v .to) (w .there) (v .there) (subst (λ (a : ℕ). Gives rules s a (w .there)) (i .1) (w .gives)) (v .gives))
+      let (p, e) =
+      passes-one [] from (w .passed) (v .passed) (w .to) (v .to) (w .there) (v .there)
+      (w .passes) (v .passes) (w .gives) (v .gives) (w .stops) (v .stops) in
+      let g = subst (λ (a : ℕ). Gives rules s a (w .there)) e (w .gives) in
+      (p, e, gives-unique rules s (v .to) (w .there) (v .there) g (v .gives))
 
 -- two numbers that cannot differ are equal
 pub known : (m n : ℕ) → ((m ≡ n → ⊥) → ⊥) → m ≡ n
@@ -109,15 +132,17 @@ known m n f =
 
 -- the rest of a walk that passes every lexeme
 abbrev Rest : List ℕ → List Legal → ℕ → Type 0
-Rest s before at = (l : List Legal) × (to : ℕ) × (there : Answer) × Passes Always s before at l to × Gives rules s to there × Stuck Always there (before ++ l)
+Rest s before at =
+    (l : List Legal) × (to : ℕ) × (there : Answer) ×
+    Passes Always s before at l to × Gives rules s to there × Stuck Always there (before ++ l)
 
 -- from a place on: nothing more, or a lexeme and the rest behind it
 rest-by : (s : List ℕ) (before : List Legal) (at : ℕ) (a : Answer) → Gives rules s at a
     → ((t : Legal) → 0 < t .length → at + t .length ≤ length s → Rest s (before ++ (t ∷ [])) (at + t .length)) → Rest s before at
 unfolding Passes
-rest-by s before at (end offset) g more = ([], at, end offset, refl, g, λ t e o. let z : _≡_ {A = ℕ} 0 1 = cc in omega arith)
+rest-by s before at (end offset) g more = ([], at, end offset, refl, g, λ t e o. end-no-token offset t e)
 rest-by s before at (refusal k start n offset) g more =
-    ([], at, refusal k start n offset, refl, g, λ t e o. let z : _≡_ {A = ℕ} 0 1 = cc in omega arith)
+    ([], at, refusal k start n offset, refl, g, λ t e o. refusal-no-token k start n offset t e)
 rest-by s before at (token k start n next) g more =
     let o = told s at k start n next g in
     let t = legal k start n in

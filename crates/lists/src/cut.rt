@@ -40,7 +40,6 @@ pub enum Statement {
 pub fn cut(text: &[u8], cursor: Cursor) -> Statement
     ensures { λ r. ⌜ Cuts (now (text .entry)) (cursor .at) r ⌝ }
 {
-    let from = cursor.at;
     let mut at = cursor;
     let mut tokens = false;
     loop {
@@ -59,7 +58,7 @@ pub fn cut(text: &[u8], cursor: Cursor) -> Statement
                 next: _,
             } = answer
             else {
-                return at_end(from, text.len(), tokens);
+                return at_end(cursor, text.len(), tokens);
             };
             return Statement::Refused {
                 why,
@@ -68,11 +67,10 @@ pub fn cut(text: &[u8], cursor: Cursor) -> Statement
                 next: cursor,
             };
         };
-        let to = behind.at;
         if kind == TK_SEMI {
             return Statement::Cut {
-                start: from,
-                length: to - from,
+                start: cursor.at,
+                length: behind.at - cursor.at,
                 tokens,
                 next: behind,
             };
@@ -91,18 +89,18 @@ fn or_counts(tokens: bool, kind: u32) -> bool
     true
 }
 
-fn at_end(from: usize, end: usize, tokens: bool) -> Statement
-    requires { ⌜ from ≤ end ⌝ }
-    ensures { λ r. ⌜ valuesOf r ≡ cutAnswer from tokens (Answer.end end) ⌝ }
+// No semicolon came: Open if any token did.
+fn at_end(from: Cursor, end: usize, tokens: bool) -> Statement
+    requires { ⌜ from .at ≤ end ⌝ }
+    ensures { λ r. ⌜ valuesOf r ≡ cutAnswer (from .at) tokens (Answer.end end) ⌝ }
 {
+    let next = Cursor { at: end };
     if tokens {
         return Statement::Open {
-            start: from,
-            length: end - from,
-            next: Cursor { at: end },
+            start: from.at,
+            length: end - from.at,
+            next,
         };
     }
-    Statement::End {
-        next: Cursor { at: end },
-    }
+    Statement::End { next }
 }

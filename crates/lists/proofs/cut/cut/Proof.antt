@@ -11,10 +11,10 @@ use Rattle.lists.proofs.cut.cut.Statement.{statement}
 use Rattle.lists.proofs.cut.cut.Tie as tie
 
 abbrev Inv-loop : tie.InvT-loop
-Inv-loop text cursor from at₀ tokens₀ at tokens = Uncut text from (at .at) tokens
+Inv-loop text cursor at₀ tokens₀ at tokens = Uncut text (cursor .at) (at .at) tokens
 
 abbrev μ-loop : tie.MeasureT-loop
-μ-loop text cursor from at₀ tokens₀ at tokens = length text - at .at
+μ-loop text cursor at₀ tokens₀ at tokens = length text - at .at
 
 loop-holds : tie.Need-loop-holds Inv-loop μ-loop
 loop-holds c = begins _ _
@@ -55,21 +55,21 @@ returns-2 c =
     let loop = c .before .before .before .before .before .loop in
     refusal-cuts (loop .inv) _ _ _ _ _ refl (subst (Lexes _ _) (answer2 .given .1) (next .ensures))
 
-sub-t15 : tie.Need-sub-t15 Inv-loop μ-loop
-sub-t15 c =
-    let answer = c .before .before .answer in
-    let next = c .before .before .before .before .next in
-    let loop = c .before .before .before .before .before .loop in
+sub-t13 : tie.Need-sub-t13 Inv-loop μ-loop
+sub-t13 c =
+    let answer = c .before .before .before .before .answer in
+    let next = c .before .before .before .before .before .before .next in
+    let loop = c .before .before .before .before .before .before .before .loop in
     let h = ahead (loop .inv) in
     let t = moves _ _ _ _ _ _ (subst (Lexes _ _) (answer .given .1) (next .ensures)) in
     omega arith
 
 returns-3 : tie.Need-returns-3 Inv-loop μ-loop
 returns-3 c =
-    let if1 = c .if1 in
-    let answer = c .before .before .answer in
-    let next = c .before .before .before .before .next in
-    let loop = c .before .before .before .before .before .loop in
+    let if1 = c .before .before .if1 in
+    let answer = c .before .before .before .before .answer in
+    let next = c .before .before .before .before .before .before .next in
+    let loop = c .before .before .before .before .before .before .before .loop in
     semi-cuts (loop .inv) _ _ _ _ (subst (Lexes _ _) (answer .given .1) (next .ensures)) (if1 .taken)
 
 or-counts-requires : tie.Need-or-counts-requires Inv-loop μ-loop
@@ -104,7 +104,7 @@ cut-spec =
     at-end-requires
     returns
     returns-2
-    sub-t15
+    sub-t13
     returns-3
     or-counts-requires
     loop-less

@@ -13,7 +13,8 @@ use Rattle.lists.proofs.list.list.Statement.{statement}
 use Rattle.lists.proofs.list.list.Tie as tie
 
 abbrev Inv-loop : tie.InvT-loop
-Inv-loop text numbers₀ at₀ records₀ filled₀ numbers at records filled = Inside text (at₀ .at) numbers₀ numbers (at .at) records filled × (length text ≤ longest)
+Inv-loop text numbers₀ at₀ records₀ filled₀ numbers at records filled =
+    Inside text (at₀ .at) numbers₀ numbers (at .at) records filled × (length text ≤ longest)
 
 abbrev μ-loop : tie.MeasureT-loop
 μ-loop text numbers₀ at₀ records₀ filled₀ numbers at records filled = length text - at .at
