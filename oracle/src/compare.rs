@@ -2,15 +2,20 @@
 
 mod alphabets;
 mod corpus;
+mod cuts;
 mod damage;
 mod families;
 mod lexemes;
+mod lists;
+mod makers;
 mod random;
 mod statements;
+mod walks;
+mod words;
 
-use crate::print_walk;
+use crate::modes::Mode;
 use corpus::Corpus;
-use families::Family;
+use families::{Family, Plan};
 use random::Random;
 use std::io::{self, Error, Read, Write};
 use std::path::Path;
@@ -19,8 +24,8 @@ use std::sync::atomic::{AtomicU64, Ordering};
 use std::sync::Mutex;
 use std::thread;
 
-/// How many texts one run of the program is asked: enough that starting it costs little.
-const PIECE: u64 = 50_000;
+/// As much of a long answer is shown.
+const SHOWN: usize = 4_000;
 
 /// COUNT SEED FOLDER PROGRAM [ARG..]: about COUNT texts; `-` for no folder. True if the program answers as the lexer does.
 pub fn compare(out: &mut impl Write, args: &[String]) -> io::Result<bool> {
@@ -31,18 +36,17 @@ pub fn compare(out: &mut impl Write, args: &[String]) -> io::Result<bool> {
     let (count, seed) = (number(count)?, number(seed)?);
     let corpus = if folder == "-" { Corpus::default() } else { Corpus::read(Path::new(folder))? };
     let mut texts = 0;
-    for (place, family) in families::all(count, &corpus).iter().enumerate() {
+    for (place, family) in families::all(Plan { count, seed, corpus: &corpus }).iter().enumerate() {
         let asked = Asked { family, place: place as u64, seed, program };
-        let difference = asked.all()?;
-        if let Some((index, told)) = difference {
+        if let Some((index, told)) = asked.all()? {
             writeln!(out, "a difference: text {index} of '{}', seed {seed}\n{told}", family.name)?;
             return Ok(false);
         }
-        writeln!(out, "{:<24} {:>10} texts, no difference", family.name, family.count)?;
+        writeln!(out, "{:<32} {:>10} texts, no difference", family.name, family.count)?;
         out.flush()?;
         texts += family.count;
     }
-    writeln!(out, "{:<24} {texts:>10} texts, no difference", "total")?;
+    writeln!(out, "{:<32} {texts:>10} texts, no difference", "total")?;
     Ok(true)
 }
 
@@ -72,32 +76,35 @@ impl Asked<'_> {
 
     /// Piece after piece, until none is left or a difference is found.
     fn pieces(&self, next: &AtomicU64, found: &Mutex<Vec<Difference>>) -> io::Result<()> {
+        let pieces = self.family.count.div_ceil(self.family.piece);
         loop {
-            let from = next.fetch_add(PIECE, Ordering::Relaxed);
-            if from >= self.family.count {
+            let piece = next.fetch_add(1, Ordering::Relaxed);
+            if piece >= pieces {
                 return Ok(());
             }
-            if let Some(difference) = self.piece(from, self.family.count.min(from + PIECE))? {
-                next.store(self.family.count, Ordering::Relaxed);
+            if let Some(difference) = self.piece(piece)? {
+                next.store(pieces, Ordering::Relaxed);
                 found.lock().expect("no worker panicked").push(difference);
             }
         }
     }
 
-    fn piece(&self, from: u64, to: u64) -> io::Result<Option<Difference>> {
+    fn piece(&self, piece: u64) -> io::Result<Option<Difference>> {
+        let from = piece * self.family.piece;
+        let mode = (self.family.mode)(piece);
         let (mut records, mut expected, mut text) = (Vec::new(), Vec::new(), Vec::new());
         let mut ends = vec![(0, 0)];
-        for index in from..to {
+        for index in from..self.family.count.min(from + self.family.piece) {
             text.clear();
             let offset = (self.family.make)(index, &mut Random::new(self.seed, self.place, index), &mut text);
             for number in [offset, text.len()] {
                 records.extend((number as u32).to_le_bytes());
             }
             records.extend(&text);
-            print_walk(&mut expected, offset, &text)?;
+            mode.print(&mut expected, offset, &text)?;
             ends.push((records.len(), expected.len()));
         }
-        let (answers, status) = ask(self.program, &records)?;
+        let (answers, status) = ask(self.program, mode, &records)?;
         let difference = first_difference(&expected, &answers);
         if difference.is_none() && !status.success() {
             return Err(Error::other(format!("the program ended with {status}")));
@@ -105,16 +112,17 @@ impl Asked<'_> {
         Ok(difference.map(|place| {
             let index = ends.partition_point(|&(_, end)| end <= place).min(ends.len() - 1) - 1;
             let ((record, start), (record_end, end)) = (ends[index], ends[index + 1]);
-            let told = tell(&records[record..record_end], &expected[start..end], &answers[start.min(answers.len())..]);
-            (from + index as u64, told)
+            let answers = [&expected[start..end], &answers[start.min(answers.len())..]];
+            (from + index as u64, tell(mode, &records[record..record_end], answers, place - start))
         }))
     }
 }
 
-/// What the program writes when it is given the records, and how it ends.
-fn ask(program: &[String], records: &[u8]) -> io::Result<(Vec<u8>, ExitStatus)> {
+/// What the program writes when it is asked the records in this mode, and how it ends.
+fn ask(program: &[String], mode: Mode, records: &[u8]) -> io::Result<(Vec<u8>, ExitStatus)> {
     let (name, args) = program.split_first().ok_or_else(|| Error::other("no program is named"))?;
-    let mut child = Command::new(name).args(args).stdin(Stdio::piped()).stdout(Stdio::piped()).spawn()?;
+    let mut child =
+        Command::new(name).args(args).args(mode.words()).stdin(Stdio::piped()).stdout(Stdio::piped()).spawn()?;
     let (mut stdin, mut stdout) = (child.stdin.take().expect("piped"), child.stdout.take().expect("piped"));
     let mut answers = Vec::new();
     thread::scope(|scope| {
@@ -130,10 +138,17 @@ fn first_difference(a: &[u8], b: &[u8]) -> Option<usize> {
     (a != b).then(|| a.iter().zip(b).take_while(|(x, y)| x == y).count())
 }
 
-/// The record in hexadecimal and both answers; the program's up to its empty line.
-fn tell(record: &[u8], expected: &[u8], answers: &[u8]) -> String {
+/// The mode, the record in hexadecimal and both answers, as far as they are worth showing; the program's up to its empty line.
+fn tell(mode: Mode, record: &[u8], [expected, answers]: [&[u8]; 2], place: usize) -> String {
     let end = answers.windows(2).position(|two| two == b"\n\n").unwrap_or(answers.len());
     let hex: String = record.iter().map(|byte| format!("{byte:02x}")).collect();
-    let [expected, answer] = [expected, &answers[..end]].map(|row| String::from_utf8_lossy(row).trim_end().to_string());
-    format!("offset, length and text: {hex}\n-- the published lexer:\n{expected}\n-- the program:\n{answer}")
+    let [expected, answer] = [expected, &answers[..end]].map(|row| {
+        let shown = &row[..row.len().min(SHOWN)];
+        String::from_utf8_lossy(shown).trim_end_matches('\n').to_string()
+    });
+    let mode = mode.words().join(" ");
+    format!(
+        "mode {mode}; the answers part at byte {place}\noffset, length and text: {hex}\n\
+         -- from the published lexer:\n{expected}\n-- the program:\n{answer}"
+    )
 }

@@ -1,74 +1,61 @@
-//! The fixed list: the published lexer's answers to the texts of `texts`, a line each.
+//! List and the cut into statements, said plainly over the walk. Both go on to where the walk stops, and keep what came first.
 
-use crate::lexer::{is_quotable_keyword, word_kind};
-use crate::texts::{self, Question};
+use crate::kinds;
+use crate::token::TokenType::{TK_NONE, TK_SEMI};
 use crate::walk::{walk, Stop};
-use std::collections::BTreeSet;
-use std::fmt::Write as _;
-use std::io::{self, Write};
+use std::io;
 
-const HEAD: &str = "\
-# Answers of the published lexer (turso_parser 0.8.3, src/lexer.rs unchanged). Tab-parted. HEX is - for the empty text.
-# N HEX OFFSET ANSWERS : Next walked from OFFSET; ANSWERS parted by one blank: KIND,start,length for each token, then
-#   END,offset  or  REFUSAL,spanstart,spanlength,offset   (OffsetPastEnd is added; the Rust gives None there)
-# W HEX KIND true|false : the kind that the keyword lookup gives for these bytes, and is_quotable_keyword
-";
+/// The numbers that the lexemes of the longest text can need: three for each byte.
+pub const MOST: usize = 3 * (TOO_LONG - 1);
 
-/// 36 kinds that are no keyword and 140 that are; TK_EOF, TK_ISNOT and TK_ANY are never returned.
-const KINDS: usize = 176;
-/// The seven that the published lexer gives, and OffsetPastEnd.
-const REFUSALS: usize = 8;
+/// List takes shorter texts only.
+pub const TOO_LONG: usize = 65_536;
 
-/// The names that the N lines have shown.
-#[derive(Default)]
-struct Met {
-    kinds: BTreeSet<String>,
-    refusals: BTreeSet<&'static str>,
-}
-
-pub fn print(out: &mut impl Write) -> io::Result<()> {
-    out.write_all(HEAD.as_bytes())?;
-    let mut met = Met::default();
-    for question in texts::all() {
-        match question {
-            Question::Next(text, offset) => {
-                let answers = answers(&text, offset, &mut met)?;
-                writeln!(out, "N\t{}\t{offset}\t{answers}", hex(&text))?;
-            }
-            Question::Word(word) => {
-                let (kind, quotable) = (word_kind(&word), is_quotable_keyword(&word));
-                writeln!(out, "W\t{}\t{kind:?}\t{quotable}", hex(&word))?;
-            }
-        }
+/// Writes kind, start and length of each legal lexeme from the offset on. Gives how it stopped and the number of records.
+pub fn list(numbers: &mut [u32], text: &[u8], offset: usize) -> io::Result<(Stop, usize)> {
+    if text.len() >= TOO_LONG {
+        return Ok((Stop::Refusal("TooLong", 0, 0, offset), 0));
     }
-    assert_eq!(met.kinds.len(), KINDS, "a kind is missing from the list");
-    assert_eq!(met.refusals.len(), REFUSALS, "a refusal is missing");
-    Ok(())
-}
-
-fn answers(text: &[u8], offset: usize, met: &mut Met) -> io::Result<String> {
-    let mut line = String::new();
+    let (mut records, mut full) = (0, None);
     let stop = walk(text, offset, |kind, start, length| {
-        met.kinds.insert(format!("{kind:?}"));
-        line += &format!("{kind:?},{start},{length} ");
+        match numbers.get_mut(3 * records..3 * records + 3) {
+            Some(free) => {
+                free.copy_from_slice(&[kinds::number(kind), start as u32, length as u32]);
+                records += 1;
+            }
+            None => full = full.or(Some(start)),
+        }
         Ok(())
     })?;
-    line += &match stop {
-        Stop::End(offset) => format!("END,{offset}"),
-        Stop::Refusal(name, start, length, offset) => {
-            met.refusals.insert(name);
-            format!("{name},{start},{length},{offset}")
-        }
-    };
-    Ok(line)
+    let full = full.map(|start| Stop::Refusal("ListFull", start, 0, start));
+    Ok((full.unwrap_or(stop), records))
 }
 
-fn hex(text: &[u8]) -> String {
-    if text.is_empty() {
-        return "-".to_string();
-    }
-    text.iter().fold(String::new(), |mut row, byte| {
-        let _ = write!(row, "{byte:02x}"); // a String takes everything
-        row
+pub enum Cut {
+    /// Up to and with the first TK_SEMI: start, length, whether a token but TK_NONE came before it, offset.
+    Statement(usize, usize, bool, usize),
+    /// No TK_SEMI, and a token but TK_NONE: start, length, offset.
+    Open(usize, usize, usize),
+    /// Blanks and comments alone, or nothing: the text's length.
+    End(usize),
+    /// Name, span start, span length, offset.
+    Refusal(&'static str, usize, usize, usize),
+}
+
+/// The statement at the offset. A refusal keeps the offset that was given.
+pub fn cut(text: &[u8], offset: usize) -> io::Result<Cut> {
+    let (mut semi, mut any) = (None, false);
+    let stop = walk(text, offset, |kind, start, length| {
+        if kind == TK_SEMI && semi.is_none() {
+            semi = Some((any, start + length));
+        }
+        any |= kind != TK_NONE;
+        Ok(())
+    })?;
+    Ok(match (semi, stop) {
+        (Some((before, end)), _) => Cut::Statement(offset, end - offset, before, end),
+        (None, Stop::Refusal(name, start, length, _)) => Cut::Refusal(name, start, length, offset),
+        (None, Stop::End(end)) if any => Cut::Open(offset, end - offset, end),
+        (None, Stop::End(end)) => Cut::End(end),
     })
 }

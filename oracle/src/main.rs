@@ -1,11 +1,15 @@
 //! The published lexer of turso_parser 0.8.3, unchanged, answering on standard output.
 
+mod answers;
 mod compare;
+mod kinds;
 mod list;
+mod modes;
 mod records;
 mod texts;
 mod walk;
 
+use modes::Mode;
 use std::io::{self, BufWriter, Write};
 use std::process::ExitCode;
 
@@ -36,17 +40,14 @@ type Result<T> = std::result::Result<T, error::Error>;
 
 fn main() -> io::Result<ExitCode> {
     let mut out = BufWriter::with_capacity(1 << 16, io::stdout().lock());
-    let mode = std::env::args().nth(1).unwrap_or_default();
-    let well = match mode.as_str() {
-        "next" => answer(&mut out, print_walk)?,
-        "word" => answer(&mut out, |out, _, word| print_word(out, word))?,
-        "list" => {
-            list::print(&mut out)?;
-            true
-        }
-        "compare" => compare::compare(&mut out, &std::env::args().skip(2).collect::<Vec<_>>())?,
+    let words: Vec<_> = std::env::args().skip(1).collect();
+    let well = match (words.first().map_or("", String::as_str), Mode::read(&words)) {
+        (_, Some(mode)) => answer(&mut out, |out, offset, text| mode.print(out, offset, text))?,
+        ("replay", _) => answer(&mut out, modes::print_replay)?,
+        ("answers", _) => answers::print(&mut out).map(|()| true)?,
+        ("compare", _) => compare::compare(&mut out, &words[1..])?,
         _ => {
-            eprintln!("modes: next (records in, tokens out), word (records in, kinds out), list, compare");
+            eprintln!("{}", modes::USAGE);
             return Ok(ExitCode::from(2));
         }
     };
@@ -67,26 +68,4 @@ fn answer<W: Write>(out: &mut W, mut print: impl FnMut(&mut W, usize, &[u8]) -> 
             }
         }
     }
-}
-
-/// A line for each token, a last line for how the walk stopped, an empty line.
-fn print_walk(out: &mut impl Write, offset: usize, text: &[u8]) -> io::Result<()> {
-    let mut count = 0;
-    let stop = walk::walk(text, offset, |kind, start, length| {
-        count += 1;
-        writeln!(out, "{kind:?}\t{start}\t{length}")
-    })?;
-    match stop {
-        walk::Stop::End(offset) => writeln!(out, "END\t{offset}\t{count}\n"),
-        walk::Stop::Refusal(name, start, length, offset) => {
-            writeln!(out, "{name}\t{start}\t{length}\t{offset}\n")
-        }
-    }
-}
-
-/// The word's kind and whether it is a keyword that wants quoting, an empty line.
-fn print_word(out: &mut impl Write, word: &[u8]) -> io::Result<()> {
-    let kind = lexer::word_kind(word);
-    let quotable = u8::from(lexer::is_quotable_keyword(word));
-    writeln!(out, "{kind:?}\t{quotable}\n")
 }

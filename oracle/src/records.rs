@@ -2,7 +2,8 @@
 
 use std::io::{self, ErrorKind};
 
-const LONGEST: usize = 16 << 20;
+/// The longest text of a record: one byte more than List takes.
+pub const LONGEST: usize = 65_536;
 
 pub struct Records<R> {
     input: R,

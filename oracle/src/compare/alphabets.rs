@@ -16,20 +16,15 @@ pub const ALPHABETS: &[(&str, &[u8])] = &[
 ];
 
 /// Every byte there is.
-pub fn all_bytes() -> Vec<u8> {
-    (0..=255).collect()
-}
-
-/// The greatest length to which the texts over an alphabet of k bytes are at most `most`, and how many they are.
-pub fn reach(k: u64, most: u64) -> (u32, u64) {
-    let (mut length, mut count, mut next) = (0, 1, k);
-    while count + next <= most {
-        count += next;
-        next *= k;
-        length += 1;
+pub const ALL_BYTES: &[u8] = &{
+    let mut bytes = [0; 256];
+    let mut byte = 0;
+    while byte < 256 {
+        bytes[byte] = byte as u8;
+        byte += 1;
     }
-    (length, count)
-}
+    bytes
+};
 
 /// The text with this number, shortest first.
 pub fn text(alphabet: &[u8], number: u64, text: &mut Vec<u8>) {

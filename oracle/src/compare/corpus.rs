@@ -1,12 +1,10 @@
 //! Real SQL: the files of a folder, whole and in pieces.
 
 use super::random::Random;
+use crate::records::LONGEST;
 use std::fs;
 use std::io;
 use std::path::Path;
-
-/// The longest text that `sqlnext` takes.
-pub const LONGEST: usize = 65_536;
 
 #[derive(Default)]
 pub struct Corpus(Vec<Vec<u8>>);
@@ -37,7 +35,7 @@ impl Corpus {
     }
 
     /// Some bytes from anywhere.
-    pub fn cut(&self, r: &mut Random, most: usize) -> &[u8] {
+    pub fn part(&self, r: &mut Random, most: usize) -> &[u8] {
         let part = &self.0[r.below(self.0.len())];
         let from = r.below(part.len());
         let length = (1 + r.below(most)).min(part.len() - from);

@@ -6,7 +6,7 @@ use std::sync::LazyLock;
 
 type Text = Vec<u8>;
 
-static KEYWORDS: LazyLock<Vec<Vec<u8>>> = LazyLock::new(keywords);
+pub static KEYWORDS: LazyLock<Vec<Vec<u8>>> = LazyLock::new(keywords);
 
 const OPERATORS: &[&[u8]] = &[
     b"-", b"->", b"->>", b"(", b")", b";", b"+", b"*", b"/", b"%", b"=", b"==", b"<", b"<=", b"<<", b"<>", b">", b">=",

@@ -1,0 +1,82 @@
+//! Makers of texts that several modes use.
+
+use super::random::Random;
+use super::{lexemes, statements};
+use crate::records::LONGEST;
+
+pub fn several_lexemes(r: &mut Random, text: &mut Vec<u8>) {
+    for _ in 0..=r.below(8) {
+        lexemes::any(r, text);
+    }
+}
+
+pub fn good(r: &mut Random, text: &mut Vec<u8>) {
+    if r.once_in(4) {
+        statements::any(r, text);
+    } else {
+        several_lexemes(r, text);
+    }
+}
+
+/// Inside the text, at its end, or past it.
+pub fn offset(r: &mut Random, length: usize) -> usize {
+    match r.below(16) {
+        0 => length,
+        1 => length + 1 + r.size(300),
+        2 => (1 << 31) - 2 + r.below(4),
+        3 => u32::MAX as usize - r.below(3),
+        _ => r.below(length + 1),
+    }
+}
+
+/// A run that goes on for up to as many bytes as a record holds, between other lexemes.
+pub fn long(r: &mut Random, text: &mut Vec<u8>) {
+    several_lexemes(r, text);
+    let length = r.size(LONGEST);
+    run(r, text, length);
+    several_lexemes(r, text);
+    text.truncate(LONGEST);
+}
+
+/// About as long as a record and List allow, with an offset near the start, near the end or past it.
+pub fn longest(r: &mut Random, text: &mut Vec<u8>) -> usize {
+    let length = LONGEST - r.below(3);
+    match r.below(4) {
+        0 => (0..length).for_each(|_| text.push(r.byte_of(b"  \t\n"))),
+        1 => run(r, text, length - 40),
+        2 => {
+            text.resize(length - 40, b' ');
+            several_lexemes(r, text);
+        }
+        _ => text.resize(length, b';'),
+    }
+    while text.len() < length {
+        lexemes::any(r, text);
+    }
+    text.truncate(length);
+    match r.below(8) {
+        0 | 1 => r.below(3),
+        2 => length,
+        3 => length + 1,
+        4 => u32::MAX as usize - r.below(2),
+        _ => length - r.below(60),
+    }
+}
+
+/// One lexeme with so many bytes inside.
+fn run(r: &mut Random, text: &mut Vec<u8>, length: usize) {
+    let (front, row, back): (&[u8], &[u8], &[u8]) = match r.below(9) {
+        0 => (b"1", b"0123456789", b" "),
+        1 => (b".1", b"0123456789", b"e5"),
+        2 => (b"0x", b"0123456789abcdefABCDEF", b";"),
+        3 => (b"a", b"abcXYZ_$019\x80\xff", b"."),
+        4 => (b"'", b"ab \n\"`-/*\x00\xff", b"'"),
+        5 => (b"/*", b"ab *\n'\"\x00\xff", b"*/"),
+        6 => (b"--", b"ab *'\"/-\x00\xff", b"\n"),
+        7 => (b" ", b" \t\n\x0c\r", b","),
+        _ => (b"$a", b"ab1_$\x80", b"(b)"),
+    };
+    text.extend(front);
+    (0..length).for_each(|_| text.push(r.byte_of(row)));
+    text.extend(back);
+}

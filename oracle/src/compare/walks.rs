@@ -1,0 +1,63 @@
+//! Texts for Next: the rules of many sorts, three quarters of them random, then all texts over small alphabets; real SQL besides.
+
+use super::alphabets::{ALL_BYTES, ALPHABETS};
+use super::damage::{damage, SPECIAL};
+use super::families::{Family, Plan};
+use super::random::Random;
+use super::{lexemes, makers, statements};
+use crate::modes::Mode;
+
+const NEXT: fn(u64) -> Mode = |_| Mode::Next;
+
+pub fn families(plan: Plan) -> Vec<Family> {
+    let share = plan.count / 16;
+    let mut families = vec![
+        random("uniform bytes", share, |r, text| (0..=r.below(24)).for_each(|_| text.push(r.byte()))),
+        random("special bytes", 2 * share, |r, text| (0..=r.below(16)).for_each(|_| text.push(r.byte_of(SPECIAL)))),
+        random("lexemes", 3 * share, makers::several_lexemes),
+        random("keywords", share, lexemes::keyword),
+        random("statements", share, statements::any),
+        random("damaged", 3 * share, |r, text| {
+            makers::good(r, text);
+            damage(r, text);
+        }),
+        Family::new("next: offsets", NEXT, share, |_, r, text| {
+            makers::good(r, text);
+            makers::offset(r, text.len())
+        }),
+        random("long", plan.count / 1000, makers::long),
+        Family::new("next: longest", NEXT, 24 + plan.count / 200_000, |_, r, text| makers::longest(r, text)),
+    ];
+    let every = |name: &str, alphabet| Family::every(&format!("next: {name}"), NEXT, alphabet, share, plan.seed, false);
+    families.extend(ALPHABETS.iter().map(|(name, alphabet)| every(name, alphabet)));
+    families.push(every("bytes", ALL_BYTES));
+    if plan.corpus.len() > 0 {
+        families.extend(real(plan, share));
+    }
+    families
+}
+
+/// Walked from the start.
+fn random<'a>(name: &str, count: u64, make: impl Fn(&mut Random, &mut Vec<u8>) + Sync + 'a) -> Family<'a> {
+    Family::new(format!("next: {name}"), NEXT, count, move |_, r, text| {
+        make(r, text);
+        0
+    })
+}
+
+/// The corpus, parts of it, and damaged parts.
+fn real(plan: Plan, share: u64) -> [Family; 3] {
+    let corpus = plan.corpus;
+    [
+        Family::new("next: corpus whole", NEXT, corpus.len() as u64, |index, _, text| {
+            text.extend(corpus.whole(index as usize));
+            0
+        }),
+        random("corpus parts", share, |r, text| text.extend(corpus.part(r, 200))),
+        Family::new("next: corpus damaged", NEXT, share, |_, r, text| {
+            text.extend(corpus.part(r, 200));
+            damage(r, text);
+            makers::offset(r, text.len())
+        }),
+    ]
+}

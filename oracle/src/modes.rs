@@ -1,0 +1,105 @@
+//! What is asked of each record, and how the answers are printed; an empty line ends those of a record.
+
+use crate::lexer::{is_quotable_keyword, word_kind};
+use crate::list::{self, Cut};
+use crate::walk::{walk, Stop};
+use std::io::{self, Write};
+
+pub const USAGE: &str =
+    "modes: next, list N (0 to 196605), cut, word, replay (records in, answers out); answers; compare";
+
+#[derive(Clone, Copy)]
+pub enum Mode {
+    Next,
+    /// With so many numbers lent.
+    List(usize),
+    Cut,
+    Word,
+}
+
+impl Mode {
+    /// From the words that name it, as a program's arguments.
+    pub fn read(words: &[String]) -> Option<Self> {
+        let words: Vec<_> = words.iter().map(String::as_str).collect();
+        match words[..] {
+            ["next"] => Some(Mode::Next),
+            ["list", n] => n.parse().ok().filter(|&n| n <= list::MOST).map(Mode::List),
+            ["cut"] => Some(Mode::Cut),
+            ["word"] => Some(Mode::Word),
+            _ => None,
+        }
+    }
+
+    /// The words that name it.
+    pub fn words(self) -> Vec<String> {
+        match self {
+            Mode::Next => vec!["next".to_string()],
+            Mode::List(n) => vec!["list".to_string(), n.to_string()],
+            Mode::Cut => vec!["cut".to_string()],
+            Mode::Word => vec!["word".to_string()],
+        }
+    }
+
+    pub fn print(self, out: &mut impl Write, offset: usize, text: &[u8]) -> io::Result<()> {
+        match self {
+            Mode::Next => print_walk(out, offset, text),
+            Mode::List(n) => print_list(out, n, offset, text),
+            Mode::Cut => print_cut(out, offset, text),
+            Mode::Word => print_word(out, text),
+        }
+    }
+}
+
+/// What the program `replay` prints of a record: Next, List with too few, just enough and more numbers, and the cut.
+pub fn print_replay(out: &mut impl Write, offset: usize, text: &[u8]) -> io::Result<()> {
+    let (_, records) = list::list(&mut vec![0; list::MOST], text, offset)?;
+    Mode::Next.print(out, offset, text)?;
+    for n in (0..8).chain([(3 * records).saturating_sub(1), 3 * records, 3 * records + 4]) {
+        Mode::List(n).print(out, offset, text)?;
+    }
+    Mode::Cut.print(out, offset, text)
+}
+
+/// A line for each token, a last line for how the walk stopped.
+fn print_walk(out: &mut impl Write, offset: usize, text: &[u8]) -> io::Result<()> {
+    let mut count = 0;
+    let stop = walk(text, offset, |kind, start, length| {
+        count += 1;
+        writeln!(out, "{kind:?}\t{start}\t{length}")
+    })?;
+    match stop {
+        Stop::End(offset) => writeln!(out, "END\t{offset}\t{count}\n"),
+        Stop::Refusal(name, start, length, offset) => writeln!(out, "{name}\t{start}\t{length}\t{offset}\n"),
+    }
+}
+
+/// The numbers lent as they are afterwards, then how List stopped and the number of records.
+fn print_list(out: &mut impl Write, n: usize, offset: usize, text: &[u8]) -> io::Result<()> {
+    // No record has this number in it, so that the numbers left alone are seen.
+    let mut numbers = vec![u32::MAX; n];
+    let (stop, records) = list::list(&mut numbers, text, offset)?;
+    for (place, number) in numbers.iter().enumerate() {
+        write!(out, "{}{number}", if place > 0 { " " } else { "" })?;
+    }
+    match stop {
+        Stop::End(offset) => writeln!(out, "\nEND\t{offset}\t{records}\n"),
+        Stop::Refusal(name, start, length, offset) => {
+            writeln!(out, "\n{name}\t{start}\t{length}\t{offset}\t{records}\n")
+        }
+    }
+}
+
+fn print_cut(out: &mut impl Write, offset: usize, text: &[u8]) -> io::Result<()> {
+    match list::cut(text, offset)? {
+        Cut::Statement(start, length, any, end) => writeln!(out, "CUT\t{start}\t{length}\t{}\t{end}\n", u8::from(any)),
+        Cut::Open(start, length, end) => writeln!(out, "OPEN\t{start}\t{length}\t{end}\n"),
+        Cut::End(end) => writeln!(out, "END\t{end}\t0\t{end}\n"),
+        Cut::Refusal(name, start, length, offset) => writeln!(out, "{name}\t{start}\t{length}\t{offset}\n"),
+    }
+}
+
+/// The word's kind and whether it is a keyword that wants quoting.
+fn print_word(out: &mut impl Write, word: &[u8]) -> io::Result<()> {
+    let (kind, quotable) = (word_kind(word), u8::from(is_quotable_keyword(word)));
+    writeln!(out, "{kind:?}\t{quotable}\n")
+}
