@@ -24,7 +24,7 @@ use std::sync::atomic::{AtomicU64, Ordering};
 use std::sync::Mutex;
 use std::thread;
 
-/// As much of a long answer is shown.
+/// As much of a long answer is shown, around the place where it is another.
 const SHOWN: usize = 4_000;
 
 /// COUNT SEED FOLDER PROGRAM [ARG..]: about COUNT texts; `-` for no folder. True if the program answers as the lexer does.
@@ -138,12 +138,13 @@ fn first_difference(a: &[u8], b: &[u8]) -> Option<usize> {
     (a != b).then(|| a.iter().zip(b).take_while(|(x, y)| x == y).count())
 }
 
-/// The mode, the record in hexadecimal and both answers, as far as they are worth showing; the program's up to its empty line.
+/// The mode, the record in hexadecimal and both answers; the program's up to its empty line.
 fn tell(mode: Mode, record: &[u8], [expected, answers]: [&[u8]; 2], place: usize) -> String {
     let end = answers.windows(2).position(|two| two == b"\n\n").unwrap_or(answers.len());
     let hex: String = record.iter().map(|byte| format!("{byte:02x}")).collect();
     let [expected, answer] = [expected, &answers[..end]].map(|row| {
-        let shown = &row[..row.len().min(SHOWN)];
+        let from = if row.len() > SHOWN { place.saturating_sub(SHOWN / 2).min(row.len()) } else { 0 };
+        let shown = &row[from..row.len().min(from + SHOWN)];
         String::from_utf8_lossy(shown).trim_end_matches('\n').to_string()
     });
     let mode = mode.words().join(" ");

@@ -31,7 +31,11 @@ pub fn families(plan: Plan) -> Vec<Family> {
             offset
         }),
         family("lexemes", 2 * share, |r, text| {
-            makers::several_lexemes(r, text);
+            for _ in 0..=r.below(3) {
+                makers::several_lexemes(r, text);
+                text.push(b';');
+            }
+            text.truncate(text.len() - r.below(2));
             makers::offset(r, text.len())
         }),
         family("special bytes", share, |r, text| {
@@ -40,7 +44,7 @@ pub fn families(plan: Plan) -> Vec<Family> {
         }),
         every("cut: statements", b"; a'1\n-"),
         every("cut: comments", b";/*-\na"),
-        family("longest", 24 + plan.count / 200_000, makers::longest),
+        Family::new("cut: longest", CUT, 24 + plan.count / 200_000, makers::longest),
     ];
     if plan.corpus.len() > 0 {
         families.push(family("corpus parts", share, |r, text| {
@@ -77,9 +81,9 @@ fn semicolons(r: &mut Random, text: &mut Vec<u8>) -> usize {
 fn blanks(r: &mut Random, text: &mut Vec<u8>) -> usize {
     for _ in 0..=r.below(6) {
         match r.below(16) {
-            0 => text.push(b';'),
-            1 => lexemes::any(r, text),
-            2..=8 => lexemes::blanks(r, text),
+            0 | 1 => text.push(b';'),
+            2 => lexemes::any(r, text),
+            3..=8 => lexemes::blanks(r, text),
             _ => lexemes::comment(r, text),
         }
     }

@@ -178,7 +178,7 @@ pub fn keyword(r: &mut Random, text: &mut Text) {
 
 /// The word in capitals, small letters, or both.
 pub fn spell(r: &mut Random, word: &mut [u8]) {
-    match r.below(3) {
+    match r.below(4) {
         0 => word.make_ascii_lowercase(),
         1 => word.make_ascii_uppercase(),
         _ => word.iter_mut().filter(|_| r.once_in(2)).for_each(|b| b.make_ascii_lowercase()),

@@ -8,7 +8,7 @@ use crate::list::MOST;
 use crate::modes::Mode;
 use crate::walk::walk;
 
-/// The greatest number of pieces before lists of the same length come again.
+/// So many pieces have lists of every length that `room` gives.
 const ROOMS: u64 = 2 * 57;
 
 pub fn families(plan: Plan) -> Vec<Family> {
@@ -26,13 +26,7 @@ pub fn families(plan: Plan) -> Vec<Family> {
         statements(share),
         every(plan, share),
         whole(8 + plan.count / 400_000),
-        Family::new(
-            "list: longest",
-            |piece| small(piece),
-            24 + plan.count / 50_000,
-            |_, r, text| makers::longest(r, text),
-        )
-        .in_pieces_of(4),
+        Family::new("list: longest", small, 48 + plan.count / 20_000, makers::longest).in_pieces_of(3),
     ];
     if plan.corpus.len() > 0 {
         families.push(family("corpus parts", share, |r, text| {
@@ -46,11 +40,7 @@ pub fn families(plan: Plan) -> Vec<Family> {
 /// The numbers lent to the texts of a piece: 0 to 7 by turns in every other piece, 8 to 64 in those between.
 fn room(piece: u64) -> usize {
     let turn = (piece / 2) as usize;
-    if piece % 2 == 0 {
-        turn % 8
-    } else {
-        8 + turn % 57
-    }
+    [turn % 8, 8 + turn % 57][(piece % 2) as usize]
 }
 
 fn small(piece: u64) -> Mode {
@@ -134,8 +124,8 @@ fn whole<'a>(count: u64) -> Family<'a> {
     let mode = |piece| Mode::List(MOST - (piece % 4) as usize);
     Family::new("list: whole", mode, count, |index, r, text| {
         if index % 2 == 0 {
-            (0..MOST / 3).for_each(|_| text.push(r.byte_of(b";,()+~[]%=")));
-            return r.below(2);
+            (0..MOST / 3).for_each(|_| text.push(r.byte_of(b";,()+~[]%")));
+            return (index / 8 % 2) as usize;
         }
         makers::long(r, text);
         0

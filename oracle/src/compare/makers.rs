@@ -20,7 +20,7 @@ pub fn good(r: &mut Random, text: &mut Vec<u8>) {
 
 /// Inside the text, at its end, or past it.
 pub fn offset(r: &mut Random, length: usize) -> usize {
-    match r.below(16) {
+    match r.below(32) {
         0 => length,
         1 => length + 1 + r.size(300),
         2 => (1 << 31) - 2 + r.below(4),
@@ -38,9 +38,10 @@ pub fn long(r: &mut Random, text: &mut Vec<u8>) {
     text.truncate(LONGEST);
 }
 
-/// About as long as a record and List allow, with an offset near the start, near the end or past it.
-pub fn longest(r: &mut Random, text: &mut Vec<u8>) -> usize {
-    let length = LONGEST - r.below(3);
+/// As long as a record holds or one or two bytes shorter, as List allows, with an offset near the start, near the end, there or past
+/// it: every length with every sort of offset in each 24 texts.
+pub fn longest(index: u64, r: &mut Random, text: &mut Vec<u8>) -> usize {
+    let length = LONGEST - (index % 3) as usize;
     match r.below(4) {
         0 => (0..length).for_each(|_| text.push(r.byte_of(b"  \t\n"))),
         1 => run(r, text, length - 40),
@@ -54,8 +55,9 @@ pub fn longest(r: &mut Random, text: &mut Vec<u8>) -> usize {
         lexemes::any(r, text);
     }
     text.truncate(length);
-    match r.below(8) {
-        0 | 1 => r.below(3),
+    match index / 3 % 8 {
+        0 => 0,
+        1 => 1 + r.below(3),
         2 => length,
         3 => length + 1,
         4 => u32::MAX as usize - r.below(2),

@@ -15,7 +15,7 @@ pub fn families(plan: Plan) -> Vec<Family> {
         random("uniform bytes", share, |r, text| (0..=r.below(24)).for_each(|_| text.push(r.byte()))),
         random("special bytes", 2 * share, |r, text| (0..=r.below(16)).for_each(|_| text.push(r.byte_of(SPECIAL)))),
         random("lexemes", 3 * share, makers::several_lexemes),
-        random("keywords", share, lexemes::keyword),
+        random("keywords", share, keywords),
         random("statements", share, statements::any),
         random("damaged", 3 * share, |r, text| {
             makers::good(r, text);
@@ -26,7 +26,7 @@ pub fn families(plan: Plan) -> Vec<Family> {
             makers::offset(r, text.len())
         }),
         random("long", plan.count / 1000, makers::long),
-        Family::new("next: longest", NEXT, 24 + plan.count / 200_000, |_, r, text| makers::longest(r, text)),
+        Family::new("next: longest", NEXT, 24 + plan.count / 200_000, makers::longest),
     ];
     let every = |name: &str, alphabet| Family::every(&format!("next: {name}"), NEXT, alphabet, share, plan.seed, false);
     families.extend(ALPHABETS.iter().map(|(name, alphabet)| every(name, alphabet)));
@@ -43,6 +43,16 @@ fn random<'a>(name: &str, count: u64, make: impl Fn(&mut Random, &mut Vec<u8>) +
         make(r, text);
         0
     })
+}
+
+/// Up to three, since there are not many different words.
+fn keywords(r: &mut Random, text: &mut Vec<u8>) {
+    for _ in 0..=r.below(3) {
+        if !text.is_empty() {
+            text.push(r.byte_of(b" \n.,;(-$"));
+        }
+        lexemes::keyword(r, text);
+    }
 }
 
 /// The corpus, parts of it, and damaged parts.

@@ -17,13 +17,11 @@ pub fn families(plan: Plan) -> Vec<Family> {
     let share = plan.count / 8;
     vec![
         family("keywords", share, mixed),
-        family("near misses", 3 * share, near_miss),
+        family("near misses", 4 * share, near_miss),
         family("spliced", share, spliced),
-        family("letters", share / 2, |r, word| (0..r.below(21)).for_each(|_| word.push(r.byte_of(NEAR)))),
-        family("any bytes", share / 2, |r, word| (0..r.below(21)).for_each(|_| word.push(r.byte()))),
-        family("longest", 24, |r, word| {
-            makers::longest(r, word);
-        }),
+        family("letters", share / 4, |r, word| (0..r.below(21)).for_each(|_| word.push(r.byte_of(NEAR)))),
+        family("any bytes", share / 4, |r, word| (0..r.below(21)).for_each(|_| word.push(r.byte()))),
+        Family::new("word: longest", WORD, 24, makers::longest),
         Family::every("word: letters", WORD, LETTERS, share, plan.seed, false),
         Family::every("word: bytes", WORD, ALL_BYTES, share, plan.seed, false),
     ]
