@@ -38,8 +38,8 @@ pub fn long(r: &mut Random, text: &mut Vec<u8>) {
     text.truncate(LONGEST);
 }
 
-/// As long as a record holds or one or two bytes shorter, as List allows, with an offset near the start, near the end, there or past
-/// it: every length with every sort of offset in each 24 texts.
+/// As long as a record holds, or a byte shorter, which List takes, or two. The offset is near the start or the end, at the end
+/// or past it: in each 24 texts every length has every sort of offset.
 pub fn longest(index: u64, r: &mut Random, text: &mut Vec<u8>) -> usize {
     let length = LONGEST - (index % 3) as usize;
     match r.below(4) {

@@ -1,4 +1,4 @@
-//! Texts for Next: the rules of many sorts, three quarters of them random, then all texts over small alphabets; real SQL besides.
+//! Texts for Next: by rules of many sorts, then all texts over small alphabets; real SQL besides.
 
 use super::alphabets::{ALL_BYTES, ALPHABETS};
 use super::damage::{damage, SPECIAL};
