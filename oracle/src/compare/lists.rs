@@ -14,7 +14,7 @@ const ROOMS: u64 = 2 * 57;
 pub fn families(plan: Plan) -> Vec<Family> {
     let share = plan.count / 8;
     let mut families = vec![
-        fitted(2 * share),
+        fitted(4 * share),
         family("lexemes", share, |r, text| {
             makers::several_lexemes(r, text);
             makers::offset(r, text.len())
