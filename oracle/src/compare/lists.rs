@@ -8,8 +8,8 @@ use crate::list::MOST;
 use crate::modes::Mode;
 use crate::walk::walk;
 
-/// So many pieces have lists of every length that `room` gives.
-const ROOMS: u64 = 2 * 57;
+/// Pieces so small that lists of many lengths are had.
+const PIECE: u64 = 1_000;
 
 pub fn families(plan: Plan) -> Vec<Family> {
     let share = plan.count / 8;
@@ -47,21 +47,15 @@ fn small(piece: u64) -> Mode {
     Mode::List(room(piece))
 }
 
-/// Pieces so small that lists of many lengths are had.
-fn piece(count: u64) -> u64 {
-    (count / ROOMS).clamp(50, 5_000)
-}
-
 fn family<'a>(name: &str, count: u64, make: impl Fn(&mut Random, &mut Vec<u8>) -> usize + Sync + 'a) -> Family<'a> {
-    Family::new(format!("list: {name}"), small, count, move |_, r, text| make(r, text)).in_pieces_of(piece(count))
+    Family::new(format!("list: {name}"), small, count, move |_, r, text| make(r, text)).in_pieces_of(PIECE)
 }
 
 /// Texts with as many lexemes as the list has whole records, or one more, or about so many: with 0, 1 or 2 numbers over, the
 /// list is exact or ample by these, or a record, two numbers or one number short.
 fn fitted<'a>(count: u64) -> Family<'a> {
-    let piece = piece(count);
     Family::new("list: fitted", small, count, move |index, r, text| {
-        let records = room(index / piece) / 3;
+        let records = room(index / PIECE) / 3;
         let wanted = match r.below(8) {
             0..=2 => records,
             3..=5 => records + 1,
@@ -79,7 +73,7 @@ fn fitted<'a>(count: u64) -> Family<'a> {
         }
         from
     })
-    .in_pieces_of(piece)
+    .in_pieces_of(PIECE)
 }
 
 /// Lexemes behind the text until so many can be passed from there; what would be refused, and what is too much, is taken off.
@@ -93,6 +87,9 @@ fn grow(r: &mut Random, text: &mut Vec<u8>, from: usize, wanted: usize) {
         .expect("nothing is written");
         let had = wanted.min(ends.len() - 1);
         text.truncate(ends[had]);
+        if had == wanted {
+            return;
+        }
         (had..wanted).for_each(|_| lexemes::any(r, text));
     }
 }
@@ -107,7 +104,7 @@ fn statements<'a>(count: u64) -> Family<'a> {
         }
         makers::offset(r, text.len())
     })
-    .in_pieces_of(piece(count))
+    .in_pieces_of(PIECE)
 }
 
 /// Each text over a small alphabet with each list of up to 12 numbers: a piece for each list.
