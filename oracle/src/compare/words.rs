@@ -16,9 +16,9 @@ const NEAR: &[u8] = b"AEINORSTZ@[_`{aeinorstz\x7f\xc1\xd3\xe1\x1f09$ ";
 pub fn families(plan: Plan) -> Vec<Family> {
     let share = plan.count / 8;
     vec![
-        family("keywords", share, mixed),
+        family("keywords", share / 4, mixed),
         family("near misses", 4 * share, near_miss),
-        family("spliced", share, spliced),
+        family("spliced", 2 * share, spliced),
         family("letters", share / 4, |r, word| (0..r.below(21)).for_each(|_| word.push(r.byte_of(NEAR)))),
         family("any bytes", share / 4, |r, word| (0..r.below(21)).for_each(|_| word.push(r.byte()))),
         Family::new("word: longest", WORD, 24, makers::longest),
