@@ -1,0 +1,163 @@
+// What is printed of a text: the tokens that `next` gives one after another, a list, a cut, or the text as a word.
+use crate::kinds::put_kind;
+use crate::lines::put_counted_place;
+use crate::lines::put_end;
+use crate::lines::put_place;
+use crate::lines::put_refusal;
+use crate::lines::put_statement;
+use crate::lines::put_token;
+use crate::lines::put_why;
+use crate::row::put;
+use crate::row::put_byte;
+use crate::row::put_column;
+use crate::row::put_number;
+use crate::row::within;
+use lexer::cursor::Cursor;
+use lexer::lexed::Lexed;
+use lexer::next::next;
+use lists::cut::Statement;
+use lists::cut::cut;
+use lists::list::Listed;
+use lists::list::list;
+use words::lookup::is_quotable_keyword;
+use words::lookup::keyword_or_id_token;
+ghost use Rattle.printing.specs.Rows.{Within};
+
+// A line for each token, then END, the offset and the number of tokens, or the refusal, its span and the offset.
+pub fn put_walk(out: &mut [u8], at: usize, names: &[u8; 2992], text: &[u8], offset: usize) -> usize
+    ensures { λ r. ⌜ Within (now (out .exit)) r ⌝ }
+{
+    let mut cursor = Cursor { at: offset };
+    let mut end = at;
+    let mut tokens = 0;
+    loop {
+        match next(text, cursor) {
+            Lexed::Token {
+                kind,
+                start,
+                length,
+                next,
+            } => {
+                end = put_token(out, end, names, kind, start, length);
+                tokens += 1;
+                cursor = next;
+            }
+            Lexed::End { next } => return put_end(out, end, next.at, tokens),
+            Lexed::Refused {
+                why,
+                start,
+                length,
+                next,
+            } => return put_refusal(out, end, why, start, length, next.at),
+        }
+    }
+}
+
+// The lent numbers behind `list`, in one line, which shows also those that it leaves as they were: each is 4294967295 before. Then
+// END, the offset and the number of records, or the refusal, its span, the offset and the number of records.
+pub fn put_list(out: &mut [u8], at: usize, text: &[u8], offset: usize, numbers: &mut [u32]) -> usize
+    ensures { λ r. ⌜ Within (now (out .exit)) r ⌝ }
+{
+    unset(numbers);
+    let listed = list(text, Cursor { at: offset }, numbers);
+    let end = put_numbers(out, at, numbers);
+    put_listed(out, end, listed)
+}
+
+fn unset(numbers: &mut [u32]) {
+    let mut i = 0;
+    while i < numbers.len() {
+        numbers[i] = u32::MAX;
+        i += 1;
+    }
+}
+
+fn put_numbers(out: &mut [u8], at: usize, numbers: &[u32]) -> usize
+    ensures { λ r. ⌜ Within (now (out .exit)) r ⌝ }
+{
+    let mut end = within(out, at);
+    let mut i = 0;
+    while i < numbers.len() {
+        end = put_item(out, end, i, numbers[i]);
+        i += 1;
+    }
+    put_byte(out, end, b'\n')
+}
+
+// A blank parts a number from the one before it.
+fn put_item(out: &mut [u8], at: usize, i: usize, n: u32) -> usize
+    ensures { λ r. ⌜ Within (now (out .exit)) r ⌝ }
+{
+    if i == 0 {
+        return put_number(out, at, n as usize);
+    }
+    let parted = put_byte(out, at, b' ');
+    put_number(out, parted, n as usize)
+}
+
+fn put_listed(out: &mut [u8], at: usize, listed: Listed) -> usize
+    ensures { λ r. ⌜ Within (now (out .exit)) r ⌝ }
+{
+    match listed {
+        Listed::End { records, next } => put_end(out, at, next.at, records),
+        Listed::Refused {
+            why,
+            start,
+            length,
+            records,
+            next,
+        } => {
+            let named = put_why(out, at, why);
+            put_counted_place(out, named, start, length, next.at, records)
+        }
+        Listed::TooLong { next } => {
+            let named = put(out, at, b"TooLong");
+            put_counted_place(out, named, 0, 0, next.at, 0)
+        }
+        Listed::ListFull { records, next } => {
+            let named = put(out, at, b"ListFull");
+            put_counted_place(out, named, next.at, 0, next.at, records)
+        }
+    }
+}
+
+// CUT, the span, whether it has a token that counts, and the offset; or OPEN or END, the span and the offset; or the refusal.
+pub fn put_cut(out: &mut [u8], at: usize, text: &[u8], offset: usize) -> usize
+    ensures { λ r. ⌜ Within (now (out .exit)) r ⌝ }
+{
+    match cut(text, Cursor { at: offset }) {
+        Statement::Cut {
+            start,
+            length,
+            tokens,
+            next,
+        } => put_statement(out, at, start, length, tokens, next.at),
+        Statement::Open {
+            start,
+            length,
+            next,
+        } => {
+            let named = put(out, at, b"OPEN");
+            put_place(out, named, start, length, next.at)
+        }
+        Statement::End { next } => {
+            let named = put(out, at, b"END");
+            put_place(out, named, next.at, 0, next.at)
+        }
+        Statement::Refused {
+            why,
+            start,
+            length,
+            next,
+        } => put_refusal(out, at, why, start, length, next.at),
+    }
+}
+
+// The kind's name, and 1 where an identifier with these bytes has to be quoted, else 0.
+pub fn put_word(out: &mut [u8], at: usize, names: &[u8; 2992], word: &[u8]) -> usize
+    ensures { λ r. ⌜ Within (now (out .exit)) r ⌝ }
+{
+    let named = put_kind(out, at, names, keyword_or_id_token(word));
+    let told = put_column(out, named, is_quotable_keyword(word) as usize);
+    put(out, told, b"\n")
+}

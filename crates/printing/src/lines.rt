@@ -1,0 +1,117 @@
+// The lines that are printed: names and numbers with a tab between them.
+use crate::kinds::put_kind;
+use crate::row::put;
+use crate::row::put_column;
+use lexer::lexed::Refusal;
+ghost use Rattle.printing.specs.Rows.{Within};
+
+pub fn put_token(
+    out: &mut [u8],
+    at: usize,
+    names: &[u8; 2992],
+    kind: u32,
+    start: usize,
+    length: usize,
+) -> usize
+    ensures { λ r. ⌜ Within (now (out .exit)) r ⌝ }
+{
+    let named = put_kind(out, at, names, kind);
+    let placed = put_column(out, named, start);
+    let measured = put_column(out, placed, length);
+    put(out, measured, b"\n")
+}
+
+// `count` is that of the tokens or of the records.
+pub fn put_end(out: &mut [u8], at: usize, offset: usize, count: usize) -> usize
+    ensures { λ r. ⌜ Within (now (out .exit)) r ⌝ }
+{
+    let named = put(out, at, b"END");
+    let placed = put_column(out, named, offset);
+    let counted = put_column(out, placed, count);
+    put(out, counted, b"\n")
+}
+
+pub fn put_why(out: &mut [u8], at: usize, why: Refusal) -> usize
+    ensures { λ r. ⌜ Within (now (out .exit)) r ⌝ }
+{
+    match why {
+        Refusal::UnrecognizedToken => put(out, at, b"UnrecognizedToken"),
+        Refusal::UnterminatedLiteral => put(out, at, b"UnterminatedLiteral"),
+        Refusal::BadNumber => put(out, at, b"BadNumber"),
+        Refusal::BadFractionalPart => put(out, at, b"BadFractionalPart"),
+        Refusal::BadExponentPart => put(out, at, b"BadExponentPart"),
+        Refusal::MalformedHexInteger => put(out, at, b"MalformedHexInteger"),
+        Refusal::ExpectedEqualsSign => put(out, at, b"ExpectedEqualsSign"),
+        Refusal::OffsetPastEnd => put(out, at, b"OffsetPastEnd"),
+    }
+}
+
+// Behind a name: a span, and the offset where lexing goes on.
+fn put_span(out: &mut [u8], at: usize, start: usize, length: usize, offset: usize) -> usize
+    ensures { λ r. ⌜ Within (now (out .exit)) r ⌝ }
+{
+    let placed = put_column(out, at, start);
+    let measured = put_column(out, placed, length);
+    put_column(out, measured, offset)
+}
+
+// The span and the offset end the line.
+pub(crate) fn put_place(
+    out: &mut [u8],
+    at: usize,
+    start: usize,
+    length: usize,
+    offset: usize,
+) -> usize
+    ensures { λ r. ⌜ Within (now (out .exit)) r ⌝ }
+{
+    let spanned = put_span(out, at, start, length, offset);
+    put(out, spanned, b"\n")
+}
+
+// Behind the span and the offset the number of a list's records ends the line.
+pub(crate) fn put_counted_place(
+    out: &mut [u8],
+    at: usize,
+    start: usize,
+    length: usize,
+    offset: usize,
+    records: usize,
+) -> usize
+    ensures { λ r. ⌜ Within (now (out .exit)) r ⌝ }
+{
+    let spanned = put_span(out, at, start, length, offset);
+    let counted = put_column(out, spanned, records);
+    put(out, counted, b"\n")
+}
+
+pub fn put_refusal(
+    out: &mut [u8],
+    at: usize,
+    why: Refusal,
+    start: usize,
+    length: usize,
+    offset: usize,
+) -> usize
+    ensures { λ r. ⌜ Within (now (out .exit)) r ⌝ }
+{
+    let named = put_why(out, at, why);
+    put_place(out, named, start, length, offset)
+}
+
+// `tokens` is whether a token that counts came before the semicolon.
+pub(crate) fn put_statement(
+    out: &mut [u8],
+    at: usize,
+    start: usize,
+    length: usize,
+    tokens: bool,
+    offset: usize,
+) -> usize
+    ensures { λ r. ⌜ Within (now (out .exit)) r ⌝ }
+{
+    let named = put(out, at, b"CUT");
+    let spanned = put_span(out, named, start, length, tokens as usize);
+    let placed = put_column(out, spanned, offset);
+    put(out, placed, b"\n")
+}

@@ -1,0 +1,137 @@
+// The records of standard input, read in pieces as large as the row of bytes allows. A record is an offset and a length, 4 bytes each
+// with the lowest first, then the text.
+use libc::STDIN_FILENO;
+ghost use mathlib.Core.Path.{_≡_};
+ghost use Prim.Native.Nat.{_+_, _≤_, _<_};
+ghost use lib.ListN.{length};
+ghost use Rattle.printing.specs.Rows.{Inside, Holds};
+
+// The longest text of a record.
+pub const LONGEST: usize = 65536;
+
+// The bytes of the row that are read and not used yet: from one place to before another.
+pub struct Unread {
+    pub from: usize,
+    pub to: usize,
+}
+
+// Text: where in the row it stands, and up to where the row is read. Over: the input ends where a record would start.
+// Bad: the record is longer than allowed or than the row, or cut off.
+pub enum Record {
+    Text {
+        offset: usize,
+        start: usize,
+        end: usize,
+        to: usize,
+    },
+    Over,
+    Bad,
+}
+
+fn wide(b: u8) -> usize
+    ensures { λ r. ⌜ r < 256 ⌝ }
+{
+    b as usize
+}
+
+// The number in the 4 bytes at a place, the lowest first.
+fn number(row: &[u8], at: usize) -> usize
+    requires { ⌜ at + 4 ≤ length (now row) ⌝ }
+{
+    let low = wide(row[at]) + 256 * wide(row[at + 1]);
+    let high = wide(row[at + 2]) + 256 * wide(row[at + 3]);
+    low + 65536 * high
+}
+
+fn move_to_front(row: &mut [u8], from: usize, n: usize)
+    requires { ⌜ from + n ≤ length (now row) ⌝ }
+    ensures { λ _. ⌜ length (now (row .exit)) ≡ length (now (row .entry)) ⌝ }
+{
+    let mut i = 0;
+    while i < n {
+        row[i] = row[from + i];
+        i += 1;
+    }
+}
+
+// One read behind the filled part; how many bytes came, none at the end of the input.
+fn read_behind(row: &mut [u8], filled: usize) -> usize
+    requires { ⌜ filled ≤ length (now row) ⌝ }
+    ensures { λ r. ⌜ filled + r ≤ length (now (row .exit)) ⌝ }
+{
+    let part = &mut row[filled..];
+    let got = libc::read(STDIN_FILENO, part);
+    io::count(got, part)
+}
+
+// At least n unread bytes, or all that the input still has and the row holds.
+fn fill(row: &mut [u8], unread: Unread, n: usize) -> Unread
+    requires { ⌜ Inside (now row) unread ⌝ }
+    ensures { λ r. ⌜ Inside (now (row .exit)) r ⌝ }
+{
+    let from = unread.from;
+    let mut filled = unread.to - from;
+    if n <= filled {
+        return unread;
+    }
+    move_to_front(row, from, filled);
+    while filled < n {
+        let more = read_behind(row, filled);
+        if more == 0 {
+            return Unread {
+                from: 0,
+                to: filled,
+            };
+        }
+        filled += more;
+    }
+    Unread {
+        from: 0,
+        to: filled,
+    }
+}
+
+// What lies in the row, or nothing.
+fn inside(row: &[u8], unread: Unread) -> Unread
+    ensures { λ r. ⌜ Inside (now (row .entry)) r ⌝ }
+{
+    if unread.from <= unread.to {
+        if unread.to <= row.len() {
+            return unread;
+        }
+    }
+    Unread { from: 0, to: 0 }
+}
+
+// The next record. Unread bytes that do not lie in the row count as none.
+pub fn read_record(row: &mut [u8], unread: Unread) -> Record
+    ensures { λ r. ⌜ Holds (now (row .exit)) r ⌝ }
+{
+    let kept = inside(row, unread);
+    let head = fill(row, kept, 8);
+    let from = head.from;
+    let left = head.to - from;
+    if left == 0 {
+        return Record::Over;
+    }
+    if left < 8 {
+        return Record::Bad;
+    }
+    let offset = number(row, from);
+    let length = number(row, from + 4);
+    if LONGEST < length {
+        return Record::Bad;
+    }
+    let whole = fill(row, head, 8 + length);
+    let first = whole.from;
+    let to = whole.to;
+    if to - first < 8 + length {
+        return Record::Bad;
+    }
+    Record::Text {
+        offset,
+        start: first + 8,
+        end: first + 8 + length,
+        to,
+    }
+}

@@ -1,0 +1,62 @@
+// What is printed, gathered in a row of bytes that is written whenever it is full: a call of the system for each piece would cost
+// more than the lexing. `at` is how many bytes of the row are filled; what puts something there answers the new number. A number
+// beyond the row counts as no bytes, and a row of no bytes prints nothing.
+use libc::STDOUT_FILENO;
+ghost use Rattle.io.specs.Counts.{Counts};
+ghost use Rattle.printing.specs.Rows.{Within};
+
+// Writes the filled bytes.
+pub fn flush(row: &[u8], at: usize) {
+    let n = within(row, at);
+    io::write_all(STDOUT_FILENO, &row[..n]);
+}
+
+pub fn put_byte(row: &mut [u8], at: usize, b: u8) -> usize
+    ensures { λ r. ⌜ Within (now (row .exit)) r ⌝ }
+{
+    if at < row.len() {
+        row[at] = b;
+        return at + 1;
+    }
+    flush(row, at);
+    if row.len() == 0 {
+        return 0;
+    }
+    row[0] = b;
+    1
+}
+
+pub fn put(row: &mut [u8], at: usize, text: &[u8]) -> usize
+    ensures { λ r. ⌜ Within (now (row .exit)) r ⌝ }
+{
+    let mut end = within(row, at);
+    let mut i = 0;
+    while i < text.len() {
+        end = put_byte(row, end, text[i]);
+        i += 1;
+    }
+    end
+}
+
+// The number in decimal digits.
+pub fn put_number(row: &mut [u8], at: usize, n: usize) -> usize
+    ensures { λ r. ⌜ Within (now (row .exit)) r ⌝ }
+{
+    let mut digits = [0u8; 20];
+    let k = io::decimal(n as u64, &mut digits);
+    put(row, at, &digits[..k])
+}
+
+// A tab and the number.
+pub fn put_column(row: &mut [u8], at: usize, n: usize) -> usize
+    ensures { λ r. ⌜ Within (now (row .exit)) r ⌝ }
+{
+    let end = put_byte(row, at, b'\t');
+    put_number(row, end, n)
+}
+
+pub(crate) fn within(row: &[u8], at: usize) -> usize
+    ensures { λ r. ⌜ Counts r (now (row .entry)) ⌝ }
+{
+    if at <= row.len() { at } else { 0 }
+}

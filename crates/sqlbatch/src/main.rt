@@ -1,0 +1,23 @@
+// sqlbatch MODE: what `next`, a list of N numbers, the cut or the word's lookup answers for each record of standard input.
+mod arguments;
+
+use crate::arguments::Asked;
+use crate::arguments::read_arguments;
+use libc::STDOUT_FILENO;
+use printing::batch::print_records;
+use printing::kinds::all_names;
+
+fn main() {
+    let Asked::For(mode) = read_arguments() else {
+        io::write_all(
+            STDOUT_FILENO,
+            b"sqlbatch MODE, where MODE is next, list N (N from 0 to 196605), cut or word\n",
+        );
+        return;
+    };
+    let names = all_names();
+    let mut numbers = [0u32; 196605];
+    let mut row = [0u8; 131072];
+    let mut out = io::large_buffer();
+    print_records(mode, &names, &mut numbers, &mut row, &mut out);
+}
