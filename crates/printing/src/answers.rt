@@ -23,6 +23,9 @@ use words::lookup::is_quotable_keyword;
 use words::lookup::keyword_or_id_token;
 ghost use Rattle.printing.specs.Rows.{Within};
 
+// The most numbers that a list fills: three for each byte of the longest text.
+pub const MOST: usize = 196605;
+
 // A line for each token, then END, the offset and the number of tokens, or the refusal, its span and the offset.
 pub fn put_walk(out: &mut [u8], at: usize, names: &[u8; 2992], text: &[u8], offset: usize) -> usize
     ensures { λ r. ⌜ Within (now (out .exit)) r ⌝ }

@@ -1,5 +1,5 @@
-// The records of standard input, read in pieces as large as the row of bytes allows. A record is an offset and a length, 4 bytes each
-// with the lowest first, then the text.
+// The records of standard input, read in pieces as large as the row of bytes allows. A record is an offset and a length, 4 bytes
+// each with the lowest first, then the text.
 use libc::STDIN_FILENO;
 ghost use mathlib.Core.Path.{_≡_};
 ghost use Prim.Native.Nat.{_+_, _≤_, _<_};

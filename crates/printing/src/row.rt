@@ -55,6 +55,7 @@ pub fn put_column(row: &mut [u8], at: usize, n: usize) -> usize
     put_number(row, end, n)
 }
 
+// How many bytes are filled.
 pub(crate) fn within(row: &[u8], at: usize) -> usize
     ensures { λ r. ⌜ Counts r (now (row .entry)) ⌝ }
 {

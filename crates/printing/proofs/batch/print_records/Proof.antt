@@ -16,7 +16,8 @@ inside : (row : List ℕ) {offset start end to : ℕ} {r : Record} → r ≡ Tex
 inside row e h = subst (Holds row) e h
 
 abbrev Inv-loop : tie.InvT-loop
-Inv-loop mode names numbers₀ row₀ out₀ unread₀ at₀ turns₀ numbers row out unread at turns = (length numbers ≡ length numbers₀) × (length row ≡ length row₀) × (length out ≡ length out₀)
+Inv-loop mode names numbers₀ row₀ out₀ unread₀ at₀ turns₀ numbers row out unread at turns =
+    (length numbers ≡ length numbers₀) × (length row ≡ length row₀) × (length out ≡ length out₀)
 
 abbrev μ-loop : tie.MeasureT-loop
 μ-loop mode names numbers₀ row₀ out₀ unread₀ at₀ turns₀ numbers row out unread at turns = turns

@@ -1,6 +1,6 @@
 -- `printing::row::within` counts bytes of the row. Assumes nothing.
-use Rattle.io.proofs.Counting.{counts}
 use borrow.Author.Needs.{needs}
+use Rattle.io.proofs.Counting.{counts}
 use Rattle.printing.proofs.row.within.Statement.{statement}
 use Rattle.printing.proofs.row.within.Tie as tie
 

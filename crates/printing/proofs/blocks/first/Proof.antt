@@ -1,8 +1,8 @@
--- `printing::batch::first` counts numbers of the row. Assumes nothing.
-use Rattle.io.proofs.Counting.{counts}
+-- `printing::blocks::first` counts numbers of the row. Assumes nothing.
 use borrow.Author.Needs.{needs}
-use Rattle.printing.proofs.batch.first.Statement.{statement}
-use Rattle.printing.proofs.batch.first.Tie as tie
+use Rattle.io.proofs.Counting.{counts}
+use Rattle.printing.proofs.blocks.first.Statement.{statement}
+use Rattle.printing.proofs.blocks.first.Tie as tie
 
 least-requires : tie.Need-least-requires
 least-requires c κs = search needs

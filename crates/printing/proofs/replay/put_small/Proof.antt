@@ -1,25 +1,26 @@
--- `printing::batch::put_small` stays in the row; the loop counts to 8. Assumes nothing.
+-- `printing::replay::put_small` stays in the row; the loop counts to 8. Assumes nothing.
 use Prim.Native.Nat.{_≤_, _-_}
 use mathlib.Core.Path.{_≡_}
 use lib.ListN.{length}
 use borrow.Author.Needs.{needs}
-use Rattle.printing.proofs.batch.put_small.Statement.{statement}
-use Rattle.printing.proofs.batch.put_small.Tie as tie
+use Rattle.printing.proofs.replay.put_small.Statement.{statement}
+use Rattle.printing.proofs.replay.put_small.Tie as tie
 
 abbrev Inv-loop : tie.InvT-loop
-Inv-loop out₀ at text offset numbers₀ end₀ n₀ out numbers end n = (end ≤ length out) × (length out ≡ length out₀) × (length numbers ≡ length numbers₀) × (n ≤ 8)
+Inv-loop out₀ at text offset numbers₀ end₀ n₀ out numbers end n =
+    (end ≤ length out) × (length out ≡ length out₀) × (length numbers ≡ length numbers₀) × (n ≤ 8)
 
 abbrev μ-loop : tie.MeasureT-loop
 μ-loop out₀ at text offset numbers₀ end₀ n₀ out numbers end n = 8 - n
 
-put-first-requires : tie.Need-put-first-requires Inv-loop μ-loop
-put-first-requires c κs = search needs
+put-list-block-requires : tie.Need-put-list-block-requires Inv-loop μ-loop
+put-list-block-requires c κs = search needs
 
 loop-holds : tie.Need-loop-holds Inv-loop μ-loop
 loop-holds c = search needs
 
-put-first-requires-2 : tie.Need-put-first-requires-2 Inv-loop μ-loop
-put-first-requires-2 c κs = search needs
+put-list-block-requires-2 : tie.Need-put-list-block-requires-2 Inv-loop μ-loop
+put-list-block-requires-2 c κs = search needs
 
 add-n : tie.Need-add-n Inv-loop μ-loop
 add-n c = search needs
@@ -45,9 +46,9 @@ put-small-spec =
     (tie.spec
     Inv-loop
     μ-loop
-    put-first-requires
+    put-list-block-requires
     loop-holds
-    put-first-requires-2
+    put-list-block-requires-2
     add-n
     loop-less
     loop-again

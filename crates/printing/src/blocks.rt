@@ -1,0 +1,65 @@
+// What the answers print, with an empty line behind each.
+use crate::answers::put_cut;
+use crate::answers::put_list;
+use crate::answers::put_walk;
+use crate::answers::put_word;
+use crate::row::put_byte;
+ghost use Prim.Native.Nat.{_≤_};
+ghost use Rattle.io.specs.Counts.{Counts};
+ghost use Rattle.printing.specs.Rows.{Within};
+
+pub(crate) fn put_walk_block(
+    out: &mut [u8],
+    at: usize,
+    names: &[u8; 2992],
+    text: &[u8],
+    offset: usize,
+) -> usize
+    ensures { λ r. ⌜ Within (now (out .exit)) r ⌝ }
+{
+    let end = put_walk(out, at, names, text, offset);
+    put_byte(out, end, b'\n')
+}
+
+// A list into the first n numbers, or into all where there are fewer.
+pub(crate) fn put_list_block(
+    out: &mut [u8],
+    at: usize,
+    text: &[u8],
+    offset: usize,
+    numbers: &mut [u32],
+    n: usize,
+) -> usize
+    ensures { λ r. ⌜ Within (now (out .exit)) r ⌝ }
+{
+    let lent = first(numbers, n);
+    let end = put_list(out, at, text, offset, &mut numbers[..lent]);
+    put_byte(out, end, b'\n')
+}
+
+// How many numbers the first n are, where there may be fewer.
+pub(crate) fn first(numbers: &[u32], n: usize) -> usize
+    ensures { λ r. ⌜ Counts r (now (numbers .entry)) ⌝ }
+{
+    least(n, numbers.len())
+}
+
+pub(crate) fn least(a: usize, b: usize) -> usize
+    ensures { λ r. ⌜ (r ≤ a) × (r ≤ b) ⌝ }
+{
+    if a < b { a } else { b }
+}
+
+pub(crate) fn put_cut_block(out: &mut [u8], at: usize, text: &[u8], offset: usize) -> usize
+    ensures { λ r. ⌜ Within (now (out .exit)) r ⌝ }
+{
+    let end = put_cut(out, at, text, offset);
+    put_byte(out, end, b'\n')
+}
+
+pub(crate) fn put_word_block(out: &mut [u8], at: usize, names: &[u8; 2992], word: &[u8]) -> usize
+    ensures { λ r. ⌜ Within (now (out .exit)) r ⌝ }
+{
+    let end = put_word(out, at, names, word);
+    put_byte(out, end, b'\n')
+}

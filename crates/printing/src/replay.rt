@@ -1,0 +1,76 @@
+// One text in all modes but `Word`. A list answers otherwise where it has no room for the text's records, so it is made at several
+// lengths.
+use crate::answers::MOST;
+use crate::blocks::first;
+use crate::blocks::least;
+use crate::blocks::put_cut_block;
+use crate::blocks::put_list_block;
+use crate::blocks::put_walk_block;
+use lexer::cursor::Cursor;
+use lists::list::LONGEST;
+use lists::list::Listed;
+use lists::list::list;
+ghost use Prim.Native.Nat.{_≤_};
+ghost use Rattle.printing.specs.Rows.{Within};
+
+pub(crate) fn put_replay(
+    out: &mut [u8],
+    at: usize,
+    names: &[u8; 2992],
+    text: &[u8],
+    offset: usize,
+    numbers: &mut [u32],
+) -> usize
+    ensures { λ r. ⌜ Within (now (out .exit)) r ⌝ }
+{
+    let walked = put_walk_block(out, at, names, text, offset);
+    let small = put_small(out, walked, text, offset, numbers);
+    let near = put_near(out, small, text, offset, numbers);
+    put_cut_block(out, near, text, offset)
+}
+
+// Lists of 0 to 7 numbers.
+fn put_small(out: &mut [u8], at: usize, text: &[u8], offset: usize, numbers: &mut [u32]) -> usize
+    ensures { λ r. ⌜ Within (now (out .exit)) r ⌝ }
+{
+    let mut end = put_list_block(out, at, text, offset, numbers, 0);
+    let mut n = 1;
+    while n < 8 {
+        end = put_list_block(out, end, text, offset, numbers, n);
+        n += 1;
+    }
+    end
+}
+
+// Lists of one number too few for the text's records, of just enough, and of four more.
+fn put_near(out: &mut [u8], at: usize, text: &[u8], offset: usize, numbers: &mut [u32]) -> usize
+    ensures { λ r. ⌜ Within (now (out .exit)) r ⌝ }
+{
+    let full = 3 * records(text, offset, numbers);
+    let short = put_list_block(out, at, text, offset, numbers, before(full));
+    let exact = put_list_block(out, short, text, offset, numbers, full);
+    put_list_block(out, exact, text, offset, numbers, full + 4)
+}
+
+fn before(n: usize) -> usize {
+    if n == 0 { 0 } else { n - 1 }
+}
+
+// How many records the text has in a list with room for any: no more than the longest text has bytes.
+fn records(text: &[u8], offset: usize, numbers: &mut [u32]) -> usize
+    ensures { λ r. ⌜ r ≤ 65535 ⌝ }
+{
+    let lent = first(numbers, MOST);
+    match list(text, Cursor { at: offset }, &mut numbers[..lent]) {
+        Listed::End { records, next: _ } => least(records, LONGEST),
+        Listed::Refused {
+            why: _,
+            start: _,
+            length: _,
+            records,
+            next: _,
+        } => least(records, LONGEST),
+        Listed::TooLong { next: _ } => 0,
+        Listed::ListFull { records, next: _ } => least(records, LONGEST),
+    }
+}
