@@ -23,11 +23,14 @@ use words::lookup::is_quotable_keyword;
 use words::lookup::keyword_or_id_token;
 ghost use Rattle.printing.specs.Rows.{Within};
 
-// The most numbers that a list fills: three for each byte of the longest text.
-pub const MOST: usize = 196605;
-
 // A line for each token, then END, the offset and the number of tokens, or the refusal, its span and the offset.
-pub fn put_walk(out: &mut [u8], at: usize, names: &[u8; 2992], text: &[u8], offset: usize) -> usize
+pub(crate) fn put_walk(
+    out: &mut [u8],
+    at: usize,
+    names: &[u8; 2992],
+    text: &[u8],
+    offset: usize,
+) -> usize
     ensures { λ r. ⌜ Within (now (out .exit)) r ⌝ }
 {
     let mut cursor = Cursor { at: offset };
@@ -58,7 +61,13 @@ pub fn put_walk(out: &mut [u8], at: usize, names: &[u8; 2992], text: &[u8], offs
 
 // The lent numbers behind `list`, in one line, which shows also those that it leaves as they were: each is 4294967295 before. Then
 // END, the offset and the number of records, or the refusal, its span, the offset and the number of records.
-pub fn put_list(out: &mut [u8], at: usize, text: &[u8], offset: usize, numbers: &mut [u32]) -> usize
+pub(crate) fn put_list(
+    out: &mut [u8],
+    at: usize,
+    text: &[u8],
+    offset: usize,
+    numbers: &mut [u32],
+) -> usize
     ensures { λ r. ⌜ Within (now (out .exit)) r ⌝ }
 {
     unset(numbers);
@@ -125,7 +134,7 @@ fn put_listed(out: &mut [u8], at: usize, listed: Listed) -> usize
 }
 
 // CUT, the span, whether it has a token that counts, and the offset; or OPEN or END, the span and the offset; or the refusal.
-pub fn put_cut(out: &mut [u8], at: usize, text: &[u8], offset: usize) -> usize
+pub(crate) fn put_cut(out: &mut [u8], at: usize, text: &[u8], offset: usize) -> usize
     ensures { λ r. ⌜ Within (now (out .exit)) r ⌝ }
 {
     match cut(text, Cursor { at: offset }) {
@@ -157,7 +166,7 @@ pub fn put_cut(out: &mut [u8], at: usize, text: &[u8], offset: usize) -> usize
 }
 
 // The kind's name, and 1 where an identifier with these bytes has to be quoted, else 0.
-pub fn put_word(out: &mut [u8], at: usize, names: &[u8; 2992], word: &[u8]) -> usize
+pub(crate) fn put_word(out: &mut [u8], at: usize, names: &[u8; 2992], word: &[u8]) -> usize
     ensures { λ r. ⌜ Within (now (out .exit)) r ⌝ }
 {
     let named = put_kind(out, at, names, keyword_or_id_token(word));

@@ -3,6 +3,7 @@ use crate::blocks::put_cut_block;
 use crate::blocks::put_list_block;
 use crate::blocks::put_walk_block;
 use crate::blocks::put_word_block;
+use crate::kinds::all_names;
 use crate::records::Record;
 use crate::records::Unread;
 use crate::records::read_record;
@@ -21,9 +22,21 @@ pub enum Mode {
     Replay,
 }
 
-// Answers each record. One that is too long or cut off prints BADRECORD and is the last.
+// The most numbers that a list fills: three for each byte of the longest text.
+pub const MOST: usize = 196605;
+
+// Answers each record of standard input. One that is too long or cut off prints BADRECORD and is the last.
+pub fn print_records(mode: Mode) {
+    let names = all_names();
+    // `Replay` lends four more than a list fills.
+    let mut numbers = [0u32; 196609];
+    let mut row = [0u8; 131072];
+    let mut out = io::large_buffer();
+    answer_records(mode, &names, &mut numbers, &mut row, &mut out);
+}
+
 // A loop has to end, and nothing says that the input does: it counts down from a number that no input uses up.
-pub fn print_records(
+fn answer_records(
     mode: Mode,
     names: &[u8; 2992],
     numbers: &mut [u32],

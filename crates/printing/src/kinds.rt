@@ -6,7 +6,7 @@ ghost use Prim.Native.Nat.{_<_};
 ghost use Rattle.printing.specs.Rows.{Within};
 
 // The 176 names end to end, with dots behind each.
-pub fn all_names() -> [u8; 2992] {
+pub(crate) fn all_names() -> [u8; 2992] {
     let mut all = [b'.'; 2992];
     let mut kind = 0;
     while kind < 176 {
@@ -28,7 +28,7 @@ fn gather(all: &mut [u8; 2992], kind: usize)
 }
 
 // The kind's name without the dots; nothing where the number is no kind's.
-pub fn put_kind(row: &mut [u8], at: usize, names: &[u8; 2992], kind: u32) -> usize
+pub(crate) fn put_kind(row: &mut [u8], at: usize, names: &[u8; 2992], kind: u32) -> usize
     ensures { λ r. ⌜ Within (now (row .exit)) r ⌝ }
 {
     let mut end = within(row, at);

@@ -5,7 +5,7 @@ use crate::row::put_column;
 use lexer::lexed::Refusal;
 ghost use Rattle.printing.specs.Rows.{Within};
 
-pub fn put_token(
+pub(crate) fn put_token(
     out: &mut [u8],
     at: usize,
     names: &[u8; 2992],
@@ -22,7 +22,7 @@ pub fn put_token(
 }
 
 // `count` is that of the tokens or of the records.
-pub fn put_end(out: &mut [u8], at: usize, offset: usize, count: usize) -> usize
+pub(crate) fn put_end(out: &mut [u8], at: usize, offset: usize, count: usize) -> usize
     ensures { λ r. ⌜ Within (now (out .exit)) r ⌝ }
 {
     let named = put(out, at, b"END");
@@ -31,7 +31,7 @@ pub fn put_end(out: &mut [u8], at: usize, offset: usize, count: usize) -> usize
     put(out, counted, b"\n")
 }
 
-pub fn put_why(out: &mut [u8], at: usize, why: Refusal) -> usize
+pub(crate) fn put_why(out: &mut [u8], at: usize, why: Refusal) -> usize
     ensures { λ r. ⌜ Within (now (out .exit)) r ⌝ }
 {
     match why {
@@ -85,7 +85,7 @@ pub(crate) fn put_counted_place(
     put(out, counted, b"\n")
 }
 
-pub fn put_refusal(
+pub(crate) fn put_refusal(
     out: &mut [u8],
     at: usize,
     why: Refusal,

@@ -7,17 +7,17 @@ ghost use lib.ListN.{length};
 ghost use Rattle.printing.specs.Rows.{Inside, Holds};
 
 // The longest text of a record.
-pub const LONGEST: usize = 65536;
+pub(crate) const LONGEST: usize = 65536;
 
 // The bytes of the row that are read and not used yet: from one place to before another.
-pub struct Unread {
-    pub from: usize,
-    pub to: usize,
+pub(crate) struct Unread {
+    pub(crate) from: usize,
+    pub(crate) to: usize,
 }
 
 // Text: where in the row it stands, and up to where the row is read. Over: the input ends where a record would start.
 // Bad: the record is longer than allowed or than the row, or cut off.
-pub enum Record {
+pub(crate) enum Record {
     Text {
         offset: usize,
         start: usize,
@@ -104,7 +104,7 @@ fn inside(row: &[u8], unread: Unread) -> Unread
 }
 
 // The next record. Unread bytes that do not lie in the row count as none.
-pub fn read_record(row: &mut [u8], unread: Unread) -> Record
+pub(crate) fn read_record(row: &mut [u8], unread: Unread) -> Record
     ensures { λ r. ⌜ Holds (now (row .exit)) r ⌝ }
 {
     let kept = inside(row, unread);

@@ -1,6 +1,6 @@
 // One text in all modes but `Word`. A list answers otherwise where it has no room for the text's records, so it is made at several
 // lengths.
-use crate::answers::MOST;
+use crate::batch::MOST;
 use crate::blocks::first;
 use crate::blocks::least;
 use crate::blocks::put_cut_block;

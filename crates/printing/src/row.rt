@@ -6,12 +6,12 @@ ghost use Rattle.io.specs.Counts.{Counts};
 ghost use Rattle.printing.specs.Rows.{Within};
 
 // Writes the filled bytes.
-pub fn flush(row: &[u8], at: usize) {
+pub(crate) fn flush(row: &[u8], at: usize) {
     let n = within(row, at);
     io::write_all(STDOUT_FILENO, &row[..n]);
 }
 
-pub fn put_byte(row: &mut [u8], at: usize, b: u8) -> usize
+pub(crate) fn put_byte(row: &mut [u8], at: usize, b: u8) -> usize
     ensures { λ r. ⌜ Within (now (row .exit)) r ⌝ }
 {
     if at < row.len() {
@@ -26,7 +26,7 @@ pub fn put_byte(row: &mut [u8], at: usize, b: u8) -> usize
     1
 }
 
-pub fn put(row: &mut [u8], at: usize, text: &[u8]) -> usize
+pub(crate) fn put(row: &mut [u8], at: usize, text: &[u8]) -> usize
     ensures { λ r. ⌜ Within (now (row .exit)) r ⌝ }
 {
     let mut end = within(row, at);
@@ -39,7 +39,7 @@ pub fn put(row: &mut [u8], at: usize, text: &[u8]) -> usize
 }
 
 // The number in decimal digits.
-pub fn put_number(row: &mut [u8], at: usize, n: usize) -> usize
+pub(crate) fn put_number(row: &mut [u8], at: usize, n: usize) -> usize
     ensures { λ r. ⌜ Within (now (row .exit)) r ⌝ }
 {
     let mut digits = [0u8; 20];
@@ -48,7 +48,7 @@ pub fn put_number(row: &mut [u8], at: usize, n: usize) -> usize
 }
 
 // A tab and the number.
-pub fn put_column(row: &mut [u8], at: usize, n: usize) -> usize
+pub(crate) fn put_column(row: &mut [u8], at: usize, n: usize) -> usize
     ensures { λ r. ⌜ Within (now (row .exit)) r ⌝ }
 {
     let end = put_byte(row, at, b'\t');

@@ -5,7 +5,6 @@ use crate::arguments::Asked;
 use crate::arguments::read_arguments;
 use libc::STDOUT_FILENO;
 use printing::batch::print_records;
-use printing::kinds::all_names;
 
 fn main() {
     let Asked::For(mode) = read_arguments() else {
@@ -15,9 +14,5 @@ fn main() {
         );
         return;
     };
-    let names = all_names();
-    let mut numbers = [0u32; 196605];
-    let mut row = [0u8; 131072];
-    let mut out = io::large_buffer();
-    print_records(mode, &names, &mut numbers, &mut row, &mut out);
+    print_records(mode);
 }

@@ -1,21 +1,6 @@
 // Lexes standard input and prints a line for each token, then how it ended. More than 65,535 bytes are refused as TooLong.
-use libc::STDIN_FILENO;
-use lists::list::LONGEST;
-use printing::answers::put_walk;
-use printing::kinds::all_names;
-use printing::row::flush;
-use printing::row::put;
+use printing::text::print_text;
 
 fn main() {
-    let names = all_names();
-    let mut text = io::large_buffer();
-    let mut out = io::large_buffer();
-    let n = io::read_full(STDIN_FILENO, &mut text);
-    if LONGEST < n {
-        let end = put(&mut out, 0, b"TooLong\t0\t0\t0\n");
-        flush(&out, end);
-        return;
-    }
-    let end = put_walk(&mut out, 0, &names, &text[..n], 0);
-    flush(&out, end);
+    print_text();
 }

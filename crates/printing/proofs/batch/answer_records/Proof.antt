@@ -1,4 +1,4 @@
--- `printing::batch::print_records` is safe, and ends since its turns are counted down. Assumes nothing.
+-- `printing::batch::answer_records` is safe, and ends since its turns are counted down. Assumes nothing.
 use Prim.Native.Nat.{ℕ, _≤_}
 use mathlib.Core.Path.{_≡_, subst}
 use mathlib.Core.List.{List}
@@ -7,8 +7,8 @@ use borrow.Author.Needs.{needs}
 use Rattle.printing.specs.declared.records.Record.{Record}
 use Rattle.printing.specs.declared.records.Record.the-variants.{Text}
 use Rattle.printing.specs.Rows.{Holds}
-use Rattle.printing.proofs.batch.print_records.Statement.{statement}
-use Rattle.printing.proofs.batch.print_records.Tie as tie
+use Rattle.printing.proofs.batch.answer_records.Statement.{statement}
+use Rattle.printing.proofs.batch.answer_records.Tie as tie
 
 -- a text that was read lies in the row
 inside : (row : List ℕ) {offset start end to : ℕ} {r : Record} → r ≡ Text offset start end to → Holds row r
@@ -91,8 +91,8 @@ same-length-6 c = search needs
 returns-2 : tie.Need-returns-2 Inv-loop μ-loop
 returns-2 c = search needs
 
-pub print-records-spec : {M : Type 1} → statement M
-print-records-spec =
+pub answer-records-spec : {M : Type 1} → statement M
+answer-records-spec =
     tie.close
     (tie.spec
     Inv-loop

@@ -1,0 +1,22 @@
+// Standard input as one text.
+use crate::answers::put_walk;
+use crate::kinds::all_names;
+use crate::row::flush;
+use crate::row::put;
+use libc::STDIN_FILENO;
+use lists::list::LONGEST;
+
+// A line for each token, then how it ended. More than 65,535 bytes are refused as TooLong.
+pub fn print_text() {
+    let names = all_names();
+    let mut text = io::large_buffer();
+    let mut out = io::large_buffer();
+    let n = io::read_full(STDIN_FILENO, &mut text);
+    if LONGEST < n {
+        let end = put(&mut out, 0, b"TooLong\t0\t0\t0\n");
+        flush(&out, end);
+        return;
+    }
+    let end = put_walk(&mut out, 0, &names, &text[..n], 0);
+    flush(&out, end);
+}
