@@ -61,11 +61,12 @@ module _ {s : List ℕ} {from at : ℕ} {tokens : Bool} (v : Uncut s from at tok
 
   pub onward : (k start m : ℕ) (next : Cursor) → Lexes s at (Token k start m next) → (k ≡ kind "TK_SEMI" → ⊥)
       → (more : Bool) → more ≡ counts k || tokens → Uncut s from (next .at) more
+  unfolding Lexes
   onward k start m next h other more e =
       let t = legal k start m in
       record {
         passed = v .passed ++ (t ∷ []);
-        passes = token-passes NoSemi s from (v .passed) at k start m next (v .passes) h other;
+        passes = token-passes NoSemi s from (v .passed) at k start m (next .at) (v .passes) h other;
         has = e ∙ ap (λ (b : Bool). counts k || b) (v .has) ∙ sym (has-one-more (v .passed) t);
       }
 

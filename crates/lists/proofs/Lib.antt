@@ -3,3 +3,4 @@ pub mod ListLaws
 pub mod CutLaws
 pub mod GaplessLaws
 pub mod Theorems
+pub mod TextLaws

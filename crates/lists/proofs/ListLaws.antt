@@ -69,6 +69,7 @@ module _ {s : List ℕ} {from : ℕ} {old out : List ℕ} {at n i : ℕ} (v : In
   -- with room for one record more
   pub onward : (k start m : ℕ) (next : Cursor) → Lexes s at (Token k start m next) → i + 3 ≤ length out
       → Inside s from old (put out i k start m) (next .at) (n + 1) (i + 3)
+  unfolding Lexes
   onward k start m next h r =
       let t = legal k start m in
       let e = same-long in
@@ -76,7 +77,7 @@ module _ {s : List ℕ} {from : ℕ} {old out : List ℕ} {at n i : ℕ} (v : In
       let one = records-one (v .passed) t in
       record {
         passed = v .passed ++ (t ∷ []);
-        passes = token-passes (HasRoom (length old)) s from (v .passed) at k start m next (v .passes) h (omega arith);
+        passes = token-passes (HasRoom (length old)) s from (v .passed) at k start m (next .at) (v .passes) h (omega arith);
         many = omega (arith, length-append (v .passed) (t ∷ []), v .many);
         filled = sym (ap length one ∙ length-append (recordsOf (v .passed)) (recordOf t) ∙ omega arith);
         room = omega arith;

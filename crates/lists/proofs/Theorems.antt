@@ -1,6 +1,7 @@
 -- For readers. `longest-in-exactly-one-class`: demand 3 of List. `list-unique`, `cut-unique`: two answers that meet a contract, and two lists,
 -- are equal. `reaches-the-end`: where List is not refused, its lexemes lead to the text's length. `too-long`, `past-end`: the refusals
--- that come first. `one-run`: every text, of any length, has one run of lexemes from every offset. Assumes nothing.
+-- that come first. `one-run`: every text, of any length, has one run of lexemes from every offset. The tables of texts: TextLaws.antt.
+-- Assumes nothing.
 use Prim.Native.Nat.{ℕ, _+_, _-_, _≤_, _<_}
 use native.Mathlib.Omega.{arith}
 use mathlib.Core.Path.{_≡_, refl, sym, _∙_, ap, subst, subst₂}
@@ -124,7 +125,6 @@ pub past-end : (s : List ℕ) (from : ℕ) (old : List ℕ) (r : Listed) (new : 
     → Lists s from old r new → (r ≡ Refused OffsetPastEnd 0 0 0 (cursor from)) × (new ≡ old)
 unfolding Lists Passes recordsOf
 past-end s from old r new short h x =
-    let here : Listing s from old (refusal (numberOf OffsetPastEnd) 0 0 from) 0 old = record { walk = walk; answers = refl; counts = refl; written = refl } in
     list-unique s from old r (Refused OffsetPastEnd 0 0 0 (cursor from)) new old x (inr (short, here))
   where
     walk : Walk (HasRoom (length old)) s from
@@ -137,6 +137,9 @@ past-end s from old r new short h x =
           gives = inl (h, refl);
           stops = λ t e o. refusal-no-token (numberOf OffsetPastEnd) 0 0 from t e;
         }
+
+    here : Listing s from old (refusal (numberOf OffsetPastEnd) 0 0 from) 0 old
+    here = record { walk = walk; answers = refl; counts = refl; written = refl }
 
 ends-so : (s : List ℕ) (numbers : ℕ) (l : List Legal) (to offset : ℕ) → Ends s numbers l to (end offset)
     → (offset ≡ to) × (to ≡ length s)

@@ -28,7 +28,8 @@ Ends s numbers lexemes to a =
     ((length s < to) × (a ≡ refusal (refusalNumber "OffsetPastEnd") 0 0 to)) ⊎
     ((to ≡ length s) × (a ≡ end to)) ⊎
     ((number : ℕ) × (start : ℕ) × (m : ℕ) × (offset : ℕ) × (n : ℕ) × (a ≡ refusal number start m offset) × InOneClass s to n a) ⊎
-    ((t : Legal) × InOneClass s to (t .length) (tokenOf t) × (HasRoom numbers lexemes t → ⊥) × (a ≡ refusal (refusalNumber "ListFull") to 0 to))
+    ((t : Legal) × InOneClass s to (t .length) (tokenOf t) × (HasRoom numbers lexemes t → ⊥) ×
+    (a ≡ refusal (refusalNumber "ListFull") to 0 to))
 
 -- the whole: the answer and the records written belong to such lexemes, and the list begins with their records
 pub record Gapless (s : List ℕ) (from : ℕ) (old : List ℕ) (a : Answer) (records : ℕ) (new : List ℕ) : Type 0 where

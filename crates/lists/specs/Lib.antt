@@ -2,3 +2,4 @@ pub mod Walk
 pub mod Lists
 pub mod Cuts
 pub mod Gapless
+pub mod Texts

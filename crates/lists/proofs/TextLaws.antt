@@ -1,0 +1,169 @@
+-- The tables of texts hold. Assumes nothing.
+use Prim.Native.Nat.{ℕ, zero, suc, _+_}
+use mathlib.Core.Path.{_≡_, refl, sym, ap, subst}
+use mathlib.Core.Bool.{Bool, true, false, cond, not}
+use mathlib.Core.List.{List, [], _∷_, _++_, map, nil≢cons, head-eq-of-cons-eq, tail-eq-of-cons-eq}
+use lib.Dec.{T, eqb, leb, eqb→eq, eqb-refl, leb→le, le→leb, T-not, not-T}
+use lib.ListN.{length, drop}
+use Rattle.keywords.specs.Kinds.{kind}
+use Rattle.keywords.proofs.Logic.{split}
+use Rattle.keywords.specs.Words.{wordList}
+use Rattle.words.specs.Bytes.{isDigit, isHexdigit, isIdentifierStart, isIdentifierContinue, isBlank}
+use Rattle.words.specs.Word.{upper, kindOf}
+use Rattle.grammar.specs.Classes.{operators, rules}
+use Rattle.grammar.specs.Answers.{Answer, token, end, refusal, answer}
+use Rattle.grammar.specs.Longest.{Gives}
+use Rattle.grammar.specs.Texts.{Every}
+use Rattle.grammar.proofs.Model.{next}
+use Rattle.grammar.proofs.Lexemes.{next-gives}
+use Rattle.grammar.proofs.Theorems.{sound}
+use Rattle.lists.specs.Walk.{Legal, Goes, Passes}
+use Rattle.lists.specs.Lists.{recordOf, recordsOf, HasRoom, listAnswer, Listing}
+use Rattle.lists.specs.Cuts.{CutAnswer, NoSemi, hasToken, cutAnswer, Cutting}
+use Rattle.lists.specs.Texts.{CutRow, cuts, ListRow, lists}
+use Rattle.lists.proofs.WalkLaws.{legal, legalOf, Stuck, token-passes, end-no-token, refusal-no-token}
+
+-- a walk as the model computes it, with a test for what it passes: where it stops, or nothing if that takes more steps than these
+pub data Stop : Type 0 where
+  nowhere : Stop
+  stop : (passed : List Legal) (to : ℕ) (there : Answer) → Stop
+
+abbrev Test : Type 0
+Test = List Legal → Legal → Bool
+
+-- a lexeme that passes leads on; another, End and a refusal stop the walk
+abbrev turn : Test → List Legal → ℕ → (List Legal → ℕ → Stop) → Answer → Stop
+turn test l at more (token k start n behind) =
+    cond (test l (legal k start n)) (more (l ++ (legal k start n ∷ [])) behind) (stop l at (token k start n behind))
+turn test l at more (end offset) = stop l at (end offset)
+turn test l at more (refusal k start n offset) = stop l at (refusal k start n offset)
+
+abbrev walk : ℕ → Test → List ℕ → List Legal → ℕ → Stop
+walk zero test s l at = nowhere
+walk (suc fuel) test s l at = turn test l at (walk fuel test s) (next rules s at)
+
+-- the test says what the walk passes
+record Decides (goes : Goes) (test : Test) : Type 0 where
+  yes : (l : List Legal) (t : Legal) → test l t ≡ true → goes l t
+  not : (l : List Legal) (t : Legal) → test l t ≡ false → goes l t → ⊥
+
+-- it is that of the definitions
+abbrev Right : Goes → List ℕ → ℕ → Stop → Type 0
+Right goes s from nowhere = Unit {0}
+Right goes s from (stop l to there) = Passes goes s [] from l to × Gives rules s to there × Stuck goes there l
+
+module _ (goes : Goes) (test : Test) (d : Decides goes test) (s : List ℕ) (from : ℕ) where
+  turn-right : (l : List Legal) (at : ℕ) (more : List Legal → ℕ → Stop) (a : Answer) → Passes goes s [] from l at → Gives rules s at a
+      → ((m : List Legal) (to : ℕ) → Passes goes s [] from m to → Right goes s from (more m to)) → Right goes s from (turn test l at more a)
+  turn-right l at more (end offset) p g r = (p, g, λ t e o. end-no-token offset t e)
+  turn-right l at more (refusal k start n offset) p g r = (p, g, λ t e o. refusal-no-token k start n offset t e)
+  turn-right l at more (token k start n behind) p g r =
+      let t = legal k start n in
+      split (test l t)
+      (λ e. rw e (r (l ++ (t ∷ [])) behind (token-passes goes s from l at k start n behind p g (d .yes l t e))))
+      (λ e. rw e (p, g, λ u f q. d .not l t e (subst (goes l) (sym (ap legalOf f)) q)))
+
+  walk-right : (fuel : ℕ) (l : List Legal) (at : ℕ) → Passes goes s [] from l at → Right goes s from (walk fuel test s l at)
+  walk-right zero l at p = tt
+  walk-right (suc fuel) l at p = turn-right l at (walk fuel test s) (next rules s at) p (next-gives rules sound s at) (walk-right fuel)
+
+  from-here : (fuel : ℕ) → Right goes s from (walk fuel test s [] from)
+  unfolding Passes
+  from-here fuel = walk-right fuel [] from refl
+
+-- what the cut of a row answers, if the walk has stopped
+abbrev cutGiven : CutRow → Stop → List CutAnswer
+cutGiven r nowhere = []
+cutGiven r (stop l to there) = cutAnswer (r .from) (hasToken l) there ∷ []
+
+abbrev semi : Legal → Bool
+semi t = eqb (t .kind) (kind "TK_SEMI")
+
+abbrev isOther : Test
+isOther l t = not (semi t)
+
+abbrev cutWalk : CutRow → Stop
+cutWalk r = walk 20 isOther (r .text) [] (r .from)
+
+computed-cuts : map (λ r. cutGiven r (cutWalk r)) cuts ≡ map (λ r. r .answer ∷ []) cuts
+unfolding cuts hasToken rules operators isDigit isHexdigit isIdentifierStart isIdentifierContinue isBlank answer kindOf upper wordList
+computed-cuts = refl
+
+-- what List answers for a row, if the walk has stopped
+abbrev listGiven : ListRow → Stop → List ListRow
+listGiven r nowhere = []
+listGiven r (stop l to there) =
+    record {
+      text = r .text;
+      from = r .from;
+      lent = r .lent;
+      answer = listAnswer to there;
+      records = length l;
+      left = recordsOf l ++ drop (length (recordsOf l)) (r .lent);
+    } ∷
+    []
+
+abbrev hasRoom : ℕ → Test
+hasRoom numbers l t = leb (length (recordsOf l) + length (recordOf t)) numbers
+
+abbrev listWalk : ListRow → Stop
+listWalk r = walk 20 (hasRoom (length (r .lent))) (r .text) [] (r .from)
+
+computed-lists : map (λ r. listGiven r (listWalk r)) lists ≡ map (λ r. r ∷ []) lists
+unfolding lists recordsOf rules operators isDigit isHexdigit isIdentifierStart isIdentifierContinue isBlank answer kindOf upper wordList
+computed-lists = refl
+
+semi-decides : Decides NoSemi isOther
+semi-decides =
+    record {
+      yes = λ l t e p. T-not (semi t) (subst T (sym e) tt) (subst (λ (x : ℕ). T (eqb (t .kind) x)) p (eqb-refl (t .kind)));
+      not = λ l t e other. subst T e (not-T (semi t) (λ x. other (eqb→eq (t .kind) (kind "TK_SEMI") x)));
+    }
+
+room-decides : (numbers : ℕ) → Decides (HasRoom numbers) (hasRoom numbers)
+room-decides numbers = record { yes = λ l t e. leb→le _ _ (subst T (sym e) tt); not = λ l t e h. subst T e (le→leb _ _ h) }
+
+cut-row : (r : CutRow) (w : Stop) → Right NoSemi (r .text) (r .from) w → cutGiven r w ≡ r .answer ∷ []
+    → Cutting (r .text) (r .from) (r .answer)
+cut-row r nowhere x e = absurd (nil≢cons e)
+cut-row r (stop l to there) (p, g, stuck) e =
+    record {
+      walk = record { passed = l; to = to; passes = p; there = there; gives = g; stops = stuck };
+      answers = sym (head-eq-of-cons-eq e);
+    }
+
+-- The cut gives what the table says.
+pub cut-texts : Every (λ r. Cutting (r .text) (r .from) (r .answer)) cuts
+cut-texts = every-row cuts computed-cuts
+  where
+    every-row : (l : List CutRow) → map (λ r. cutGiven r (cutWalk r)) l ≡ map (λ r. r .answer ∷ []) l
+        → Every (λ r. Cutting (r .text) (r .from) (r .answer)) l
+    every-row [] e = tt
+    every-row (r ∷ l) e =
+        let right = from-here NoSemi isOther semi-decides (r .text) (r .from) 20 in
+        (cut-row r (cutWalk r) right (head-eq-of-cons-eq e), every-row l (tail-eq-of-cons-eq e))
+
+abbrev Listed : ListRow → Type 0
+Listed r = Listing (r .text) (r .from) (r .lent) (r .answer) (r .records) (r .left)
+
+list-row : (r : ListRow) (w : Stop) → Right (HasRoom (length (r .lent))) (r .text) (r .from) w → listGiven r w ≡ r ∷ [] → Listed r
+list-row r nowhere x e = absurd (nil≢cons e)
+list-row r (stop l to there) (p, g, stuck) e =
+    let same = sym (head-eq-of-cons-eq e) in
+    record {
+      walk = record { passed = l; to = to; passes = p; there = there; gives = g; stops = stuck };
+      answers = ap (λ (q : ListRow). q .answer) same;
+      counts = ap (λ (q : ListRow). q .records) same;
+      written = ap (λ (q : ListRow). q .left) same;
+    }
+
+-- List gives what the table says.
+pub list-texts : Every (λ r. Listing (r .text) (r .from) (r .lent) (r .answer) (r .records) (r .left)) lists
+list-texts = every-row lists computed-lists
+  where
+    every-row : (l : List ListRow) → map (λ r. listGiven r (listWalk r)) l ≡ map (λ r. r ∷ []) l → Every Listed l
+    every-row [] e = tt
+    every-row (r ∷ l) e =
+        let n = length (r .lent) in
+        let right = from-here (HasRoom n) (hasRoom n) (room-decides n) (r .text) (r .from) 20 in
+        (list-row r (listWalk r) right (head-eq-of-cons-eq e), every-row l (tail-eq-of-cons-eq e))
