@@ -24,20 +24,20 @@ use Rattle.lexer.proofs.lexed.Lexed as Lexed-is
 use Rattle.lists.specs.declared.cut.Statement.{Statement}
 use Rattle.lists.specs.declared.cut.Statement.the-variants.{Cut, Refused}
 use Rattle.lists.specs.Walk.{Legal, tokenOf, Passes}
-use Rattle.lists.specs.Cuts.{CutAnswer, NoSemi, counts, hasToken, cutAnswer, Cutting, valuesOf, Cuts}
+use Rattle.lists.specs.Cuts.{CutAnswer, NoSemi, notNone, someNotNone, cutAnswer, Cutting, valuesOf, Cuts}
 use Rattle.lists.proofs.WalkLaws.{legal, token-passes, end-no-token, refusal-no-token, passes-ahead}
 
-pub counts-other : (k : ℕ) (b : Bool) → (k ≡ kind "TK_NONE" → ⊥) → true ≡ counts k || b
-counts-other k b other =
+pub not-none : (k : ℕ) (b : Bool) → (k ≡ kind "TK_NONE" → ⊥) → true ≡ notNone k || b
+not-none k b other =
     split (eqb k (kind "TK_NONE"))
     (λ e. absurd (other (eqb→eq k (kind "TK_NONE") (subst T (sym e) tt))))
     (λ e. rw e refl)
 
-has-one-more : (l : List Legal) (t : Legal) → hasToken (l ++ (t ∷ [])) ≡ counts (t .kind) || hasToken l
-unfolding hasToken
+has-one-more : (l : List Legal) (t : Legal) → someNotNone (l ++ (t ∷ [])) ≡ notNone (t .kind) || someNotNone l
+unfolding someNotNone
 has-one-more [] t = refl
 has-one-more (u ∷ l) t =
-    ap (λ (b : Bool). counts (u .kind) || b) (has-one-more l t) ∙ or-swap (counts (u .kind)) (counts (t .kind)) (hasToken l)
+    ap (λ (b : Bool). notNone (u .kind) || b) (has-one-more l t) ∙ or-swap (notNone (u .kind)) (notNone (t .kind)) (someNotNone l)
   where
     or-swap : (a b c : Bool) → (a || (b || c)) ≡ (b || (a || c))
     or-swap true true c = refl
@@ -49,10 +49,10 @@ has-one-more (u ∷ l) t =
 pub record Uncut (s : List ℕ) (from at : ℕ) (tokens : Bool) : Type 0 where
   pub passed : List Legal
   pub passes : Passes NoSemi s [] from passed at
-  pub has : tokens ≡ hasToken passed
+  pub has : tokens ≡ someNotNone passed
 
 pub begins : (s : List ℕ) (from : ℕ) → Uncut s from from false
-unfolding Passes hasToken
+unfolding Passes someNotNone
 begins s from = record { passed = []; passes = refl; has = refl }
 
 module _ {s : List ℕ} {from at : ℕ} {tokens : Bool} (v : Uncut s from at tokens) where
@@ -60,14 +60,14 @@ module _ {s : List ℕ} {from at : ℕ} {tokens : Bool} (v : Uncut s from at tok
   ahead = passes-ahead NoSemi s [] from (v .passed) at (v .passes)
 
   pub onward : (k start m : ℕ) (next : Cursor) → Lexes s at (Token k start m next) → (k ≡ kind "TK_SEMI" → ⊥)
-      → (more : Bool) → more ≡ counts k || tokens → Uncut s from (next .at) more
+      → (more : Bool) → more ≡ notNone k || tokens → Uncut s from (next .at) more
   unfolding Lexes
   onward k start m next h other more e =
       let t = legal k start m in
       record {
         passed = v .passed ++ (t ∷ []);
         passes = token-passes NoSemi s from (v .passed) at k start m (next .at) (v .passes) h other;
-        has = e ∙ ap (λ (b : Bool). counts k || b) (v .has) ∙ sym (has-one-more (v .passed) t);
+        has = e ∙ ap (λ (b : Bool). notNone k || b) (v .has) ∙ sym (has-one-more (v .passed) t);
       }
 
   -- the walk ends here

@@ -21,14 +21,14 @@ module _ (goes : Goes) (s : List ℕ) where
       let o = told s at (t .kind) (t .start) (t .length) (t .start + t .length) g in
       (o .class, o .longest, o .gives)
 
-  passes-follow : (before : List Legal) (from : ℕ) (l : List Legal) (to : ℕ) → Passes goes s before from l to → Follow from l to
+  pub passes-follow : (before : List Legal) (from : ℕ) (l : List Legal) (to : ℕ) → Passes goes s before from l to → Follow from l to
   unfolding Passes Follow
   passes-follow before from [] to p = p
   passes-follow before from (t ∷ l) to (e, g, o, p) =
       let o = told s from (t .kind) (t .start) (t .length) (t .start + t .length) g in
       (e, o .some, passes-follow (before ++ (t ∷ [])) (from + t .length) l to p)
 
-  passes-each : (before : List Legal) (from : ℕ) (l : List Legal) (to : ℕ) → Passes goes s before from l to
+  pub passes-each : (before : List Legal) (from : ℕ) (l : List Legal) (to : ℕ) → Passes goes s before from l to
       → Every (λ t. InOneClass s (t .start) (t .length) (tokenOf t)) l
   unfolding Passes
   passes-each before from [] to p = tt
@@ -63,6 +63,6 @@ gapless s from old a records new x =
       follow = passes-follow (HasRoom (length old)) s [] from (w .passed) (w .to) (w .passes);
       each = passes-each (HasRoom (length old)) s [] from (w .passed) (w .to) (w .passes);
       ends = subst (Ends s (length old) (w .passed) (w .to)) (sym (x .answers)) ends;
-      counted = x .counts;
+      counted = x .counted;
       written = x .written;
     }

@@ -93,7 +93,7 @@ module _ {s : List ℕ} {from : ℕ} {old out : List ℕ} {at n i : ℕ} (v : In
       record {
         walk = record { passed = v .passed; to = at; passes = v .passes; there = there; gives = g; stops = stuck };
         answers = refl;
-        counts = v .many;
+        counted = v .many;
         written = v .holds ∙ ap (λ (m : ℕ). recordsOf (v .passed) ++ drop m old) (v .filled);
       }
 

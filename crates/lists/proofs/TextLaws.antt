@@ -11,7 +11,7 @@ use Rattle.keywords.specs.Words.{wordList}
 use Rattle.words.specs.Bytes.{isDigit, isHexdigit, isIdentifierStart, isIdentifierContinue, isBlank}
 use Rattle.words.specs.Word.{upper, kindOf}
 use Rattle.grammar.specs.Classes.{operators, rules}
-use Rattle.grammar.specs.Answers.{Answer, token, end, refusal, answer}
+use Rattle.grammar.specs.Answers.{Answer, token, end, refusal, refusalNumber, answer}
 use Rattle.grammar.specs.Longest.{Gives}
 use Rattle.grammar.specs.Texts.{Every}
 use Rattle.grammar.proofs.Model.{next}
@@ -19,7 +19,7 @@ use Rattle.grammar.proofs.Lexemes.{next-gives}
 use Rattle.grammar.proofs.Theorems.{sound}
 use Rattle.lists.specs.Walk.{Legal, Goes, Passes}
 use Rattle.lists.specs.Lists.{recordOf, recordsOf, HasRoom, listAnswer, Listing}
-use Rattle.lists.specs.Cuts.{CutAnswer, NoSemi, hasToken, cutAnswer, Cutting}
+use Rattle.lists.specs.Cuts.{CutAnswer, NoSemi, someNotNone, cutAnswer, Cutting}
 use Rattle.lists.specs.Texts.{CutRow, cuts, ListRow, lists}
 use Rattle.lists.proofs.WalkLaws.{legal, legalOf, Stuck, token-passes, end-no-token, refusal-no-token}
 
@@ -74,7 +74,7 @@ module _ (goes : Goes) (test : Test) (d : Decides goes test) (s : List ℕ) (fro
 -- what the cut of a row answers, if the walk has stopped
 abbrev cutGiven : CutRow → Stop → List CutAnswer
 cutGiven r nowhere = []
-cutGiven r (stop l to there) = cutAnswer (r .from) (hasToken l) there ∷ []
+cutGiven r (stop l to there) = cutAnswer (r .from) (someNotNone l) there ∷ []
 
 abbrev semi : Legal → Bool
 semi t = eqb (t .kind) (kind "TK_SEMI")
@@ -86,7 +86,7 @@ abbrev cutWalk : CutRow → Stop
 cutWalk r = walk 20 isOther (r .text) [] (r .from)
 
 computed-cuts : map (λ r. cutGiven r (cutWalk r)) cuts ≡ map (λ r. r .answer ∷ []) cuts
-unfolding cuts hasToken rules operators isDigit isHexdigit isIdentifierStart isIdentifierContinue isBlank answer kindOf upper wordList
+unfolding cuts someNotNone rules operators isDigit isHexdigit isIdentifierStart isIdentifierContinue isBlank answer kindOf upper wordList
 computed-cuts = refl
 
 -- what List answers for a row, if the walk has stopped
@@ -112,6 +112,10 @@ listWalk r = walk 20 (hasRoom (length (r .lent))) (r .text) [] (r .from)
 computed-lists : map (λ r. listGiven r (listWalk r)) lists ≡ map (λ r. r ∷ []) lists
 unfolding lists recordsOf rules operators isDigit isHexdigit isIdentifierStart isIdentifierContinue isBlank answer kindOf upper wordList
 computed-lists = refl
+
+-- document 01's numbers of List's own refusals
+pub own-numbers : (refusalNumber "TooLong" ≡ 9) × (refusalNumber "ListFull" ≡ 10)
+own-numbers = (refl, refl)
 
 semi-decides : Decides NoSemi isOther
 semi-decides =
@@ -153,7 +157,7 @@ list-row r (stop l to there) (p, g, stuck) e =
     record {
       walk = record { passed = l; to = to; passes = p; there = there; gives = g; stops = stuck };
       answers = ap (λ (q : ListRow). q .answer) same;
-      counts = ap (λ (q : ListRow). q .records) same;
+      counted = ap (λ (q : ListRow). q .records) same;
       written = ap (λ (q : ListRow). q .left) same;
     }
 

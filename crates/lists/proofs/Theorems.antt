@@ -1,10 +1,10 @@
--- For readers. `longest-in-exactly-one-class`: demand 3 of List. `list-unique`, `cut-unique`: two answers that meet a contract, and two lists,
+-- For readers. `gapless-run-of-longest-in-one-class`: demand 3 of List. `list-unique`, `cut-unique`: two answers that meet a contract, and two lists,
 -- are equal. `reaches-the-end`: where List is not refused, its lexemes lead to the text's length. `too-long`, `past-end`: the refusals
 -- that come first. `one-run`: every text, of any length, has one run of lexemes from every offset. The tables of texts: TextLaws.antt.
 -- Assumes nothing.
 use Prim.Native.Nat.{ℕ, _+_, _-_, _≤_, _<_}
 use native.Mathlib.Omega.{arith}
-use mathlib.Core.Path.{_≡_, refl, sym, _∙_, ap, subst, subst₂}
+use mathlib.Core.Path.{_≡_, refl, sym, _∙_, ap, subst₂}
 use mathlib.Core.Bool.{Bool, true, false, cond}
 use mathlib.Core.List.{List, [], _++_}
 use mathlib.Core.Logic.{inl, inr}
@@ -14,6 +14,7 @@ use Rattle.keywords.specs.Kinds.{kind}
 use Rattle.grammar.specs.Classes.{rules}
 use Rattle.grammar.specs.Answers.{Answer, token, end, refusal, refusalNumber}
 use Rattle.grammar.specs.Longest.{Gives}
+use Rattle.grammar.specs.Texts.{Every}
 use Rattle.grammar.proofs.Tokens.{told}
 use Rattle.lexer.specs.declared.cursor.Cursor.{Cursor}
 use Rattle.lexer.specs.declared.lexed.Refusal.{Refusal}
@@ -27,18 +28,18 @@ use Rattle.lists.specs.declared.list.Listed.the-variants.{End, Refused, 
 use Rattle.lists.specs.declared.cut.Statement.{Statement}
 use Rattle.lists.specs.declared.cut.Statement.the-variants.{Cut, Open, End as Over, Refused as Bad}
 use Rattle.lists.specs.Walk.{Legal, tokenOf, Always, Passes, Walk}
-use Rattle.lists.specs.Lists.{recordsOf, HasRoom, listAnswer, longest, Listing, ListGives, answerOf, countOf, Lists}
-use Rattle.lists.specs.Cuts.{CutAnswer, cut, opened, ended, refused, NoSemi, hasToken, cutAnswer, valuesOf, Cuts}
-use Rattle.lists.specs.Gapless.{Follow, Ends, Gapless}
+use Rattle.lists.specs.Lists.{recordsOf, HasRoom, listAnswer, longest, Listing, answerOf, recordsIn, Lists}
+use Rattle.lists.specs.Cuts.{CutAnswer, cut, opened, ended, refused, NoSemi, someNotNone, cutAnswer, valuesOf, Cuts}
+use Rattle.lists.specs.Gapless.{InOneClass, Follow, Ends, Gapless}
 use Rattle.lists.proofs.WalkLaws.{legal, is-legal, refusal-no-token, known, passes-ahead, walk-one, run}
-use Rattle.lists.proofs.GaplessLaws.{gapless}
+use Rattle.lists.proofs.GaplessLaws.{passes-follow, passes-each, gapless}
 
 -- Demand 3.
-pub longest-in-exactly-one-class : (s : List ℕ) (from : ℕ) (old : List ℕ) (r : Listed) (new : List ℕ) → length s ≤ longest
-    → Lists s from old r new → Gapless s from old (answerOf r) (countOf r) new
+pub gapless-run-of-longest-in-one-class : (s : List ℕ) (from : ℕ) (old : List ℕ) (r : Listed) (new : List ℕ) → length s ≤ longest
+    → Lists s from old r new → Gapless s from old (answerOf r) (recordsIn r) new
 unfolding Lists
-longest-in-exactly-one-class s from old r new h (inl (l, x, y, z)) = absurd (omega arith)
-longest-in-exactly-one-class s from old r new h (inr (l, x)) = gapless s from old (answerOf r) (countOf r) new x
+gapless-run-of-longest-in-one-class s from old r new h (inl (l, x, y, z)) = absurd (omega arith)
+gapless-run-of-longest-in-one-class s from old r new h (inr (l, x)) = gapless s from old (answerOf r) (recordsIn r) new x
 
 -- An answer of List can be read back from its values.
 abbrev refusedOf : ℕ → ℕ → ℕ → ℕ → ℕ → Listed
@@ -62,35 +63,35 @@ refused-back MalformedHexInteger start n records next = refl
 refused-back ExpectedEqualsSign start n records next = refl
 refused-back OffsetPastEnd start n records next = refl
 
-listed-back : (r : Listed) → listedOf (answerOf r) (countOf r) ≡ r
+listed-back : (r : Listed) → listedOf (answerOf r) (recordsIn r) ≡ r
 listed-back (End records next) = refl
 listed-back (Refused why start n records next) = refused-back why start n records next
 listed-back (TooLong next) = refl
 listed-back (ListFull records next) = refl
+
+same-values : (r q : Listed) → answerOf r ≡ answerOf q → recordsIn r ≡ recordsIn q → r ≡ q
+same-values r q a m =
+    sym (listed-back r) ∙ ap (λ (b : Answer). listedOf b (recordsIn r)) a ∙ ap (listedOf (answerOf q)) m ∙ listed-back q
 
 listing-unique : (s : List ℕ) (from : ℕ) (old : List ℕ) (a b : Answer) (m n : ℕ) (new new′ : List ℕ)
     → Listing s from old a m new → Listing s from old b n new′ → (a ≡ b) × (m ≡ n) × (new ≡ new′)
 listing-unique s from old a b m n new new′ x y =
     let (p, q, t) = walk-one (HasRoom (length old)) s from (x .walk) (y .walk) in (
       x .answers ∙ ap (λ (at : ℕ). listAnswer at (x .walk .there)) q ∙ ap (listAnswer (y .walk .to)) t ∙ sym (y .answers),
-      x .counts ∙ ap length p ∙ sym (y .counts),
+      x .counted ∙ ap length p ∙ sym (y .counted),
       x .written ∙ ap (λ (l : List Legal). recordsOf l ++ drop (length (recordsOf l)) old) p ∙ sym (y .written),
     )
-
-gives-unique : (s : List ℕ) (from : ℕ) (old : List ℕ) (a b : Answer) (m n : ℕ) (new new′ : List ℕ)
-    → ListGives s from old a m new → ListGives s from old b n new′ → (a ≡ b) × (m ≡ n) × (new ≡ new′)
-gives-unique s from old a b m n new new′ (inl (h, x, y, z)) (inl (k, u, v, w)) = (x ∙ sym u, y ∙ sym v, z ∙ sym w)
-gives-unique s from old a b m n new new′ (inl (h, x, y, z)) (inr (k, u)) = absurd (omega arith)
-gives-unique s from old a b m n new new′ (inr (h, x)) (inl (k, u, v, w)) = absurd (omega arith)
-gives-unique s from old a b m n new new′ (inr (h, x)) (inr (k, y)) = listing-unique s from old a b m n new new′ x y
 
 -- The contract of `list` leaves one answer and one list.
 pub list-unique : (s : List ℕ) (from : ℕ) (old : List ℕ) (r q : Listed) (new new′ : List ℕ)
     → Lists s from old r new → Lists s from old q new′ → (r ≡ q) × (new ≡ new′)
 unfolding Lists
-list-unique s from old r q new new′ x y =
-    let (a, m, e) = gives-unique s from old (answerOf r) (answerOf q) (countOf r) (countOf q) new new′ x y in
-    (sym (listed-back r) ∙ ap (λ (b : Answer). listedOf b (countOf r)) a ∙ ap (listedOf (answerOf q)) m ∙ listed-back q, e)
+list-unique s from old r q new new′ (inl (h, x, y, z)) (inl (k, u, v, w)) = (same-values r q (x ∙ sym u) (y ∙ sym v), z ∙ sym w)
+list-unique s from old r q new new′ (inl (h, x, y, z)) (inr (k, u)) = absurd (omega arith)
+list-unique s from old r q new new′ (inr (h, x)) (inl (k, u, v, w)) = absurd (omega arith)
+list-unique s from old r q new new′ (inr (h, x)) (inr (k, y)) =
+    let (a, m, e) = listing-unique s from old (answerOf r) (answerOf q) (recordsIn r) (recordsIn q) new new′ x y in
+    (same-values r q a m, e)
 
 -- An answer of the cut can be read back from its values.
 abbrev statementOf : CutAnswer → Statement
@@ -110,8 +111,8 @@ pub cut-unique : (s : List ℕ) (from : ℕ) (r q : Statement) → Cuts s from r
 unfolding Cuts
 cut-unique s from r q x y =
     let (p, e, t) = walk-one NoSemi s from (x .walk) (y .walk) in
-    let a = ap (λ (l : List Legal). cutAnswer from (hasToken l) (x .walk .there)) p in
-    let b = ap (cutAnswer from (hasToken (y .walk .passed))) t in
+    let a = ap (λ (l : List Legal). cutAnswer from (someNotNone l) (x .walk .there)) p in
+    let b = ap (cutAnswer from (someNotNone (y .walk .passed))) t in
     sym (statement-back r) ∙ ap statementOf (x .answers ∙ a ∙ b ∙ sym (y .answers)) ∙ statement-back q
 
 -- A text that is too long is refused first; the list stays as it was.
@@ -139,7 +140,7 @@ past-end s from old r new short h x =
         }
 
     here : Listing s from old (refusal (numberOf OffsetPastEnd) 0 0 from) 0 old
-    here = record { walk = walk; answers = refl; counts = refl; written = refl }
+    here = record { walk = walk; answers = refl; counted = refl; written = refl }
 
 ends-so : (s : List ℕ) (numbers : ℕ) (l : List Legal) (to offset : ℕ) → Ends s numbers l to (end offset)
     → (offset ≡ to) × (to ≡ length s)
@@ -148,15 +149,15 @@ ends-so s numbers l to offset (inr (inl (h, e))) = (cc, h)
 ends-so s numbers l to offset (inr (inr (inl (k, start, m, o, n, e, c)))) = let z : _≡_ {A = ℕ} 0 1 = cc in absurd (omega arith)
 ends-so s numbers l to offset (inr (inr (inr (t, c, f, e)))) = let z : _≡_ {A = ℕ} 0 1 = cc in absurd (omega arith)
 
--- Where no refusal comes, the lexemes lead to the text's length.
+-- Where no refusal comes, the lexemes that the list has lead to the text's length.
 pub reaches-the-end : (s : List ℕ) (from : ℕ) (old : List ℕ) (n : ℕ) (next : Cursor) (new : List ℕ) → Lists s from old (End n next) new
-    → (next .at ≡ length s) × (l : List Legal) × Follow from l (length s) × (n ≡ length l)
+    → (next .at ≡ length s) × (g : Gapless s from old (end (next .at)) n new) × (g .to ≡ length s)
 unfolding Lists
 reaches-the-end s from old n next new (inl (h, e, f, g)) = let z : _≡_ {A = ℕ} 0 1 = cc in absurd (omega arith)
 reaches-the-end s from old n next new (inr (h, x)) =
     let g = gapless s from old (end (next .at)) n new x in
     let (o, e) = ends-so s (length old) (g .lexemes) (g .to) (next .at) (g .ends) in
-    (o ∙ e, g .lexemes, subst (Follow from (g .lexemes)) e (g .follow), g .counted)
+    (o ∙ e, g, e)
 
 -- What ends a cut is a semicolon, up to and with which its span goes.
 abbrev pub ToSemi : List ℕ → ℕ → ℕ → ℕ → Type 0
@@ -173,7 +174,7 @@ cut-ends-with-semi s from start n tokens next x = by-answer (x .walk .there) (x 
     not-at-end false offset e = let z : _≡_ {A = ℕ} 0 1 = cc in omega arith
 
     by-answer : (a : Answer) → Gives rules s (x .walk .to) a → ((t : Legal) → a ≡ tokenOf t → NoSemi (x .walk .passed) t → ⊥)
-        → cut start n tokens (next .at) ≡ cutAnswer from (hasToken (x .walk .passed)) a
+        → cut start n tokens (next .at) ≡ cutAnswer from (someNotNone (x .walk .passed)) a
         → ToSemi s from start n
     by-answer (token k begin m behind) g stuck e =
         let o = told s (x .walk .to) k begin m behind g in
@@ -186,10 +187,20 @@ cut-ends-with-semi s from start n tokens next x = by-answer (x .walk .there) (x 
         let b = o .goes in
         let c = o .starts in
         (p, t, subst₂ (Gives rules s) (sym c) same g, semi, omega arith)
-    by-answer (end offset) g stuck e = absurd (not-at-end (hasToken (x .walk .passed)) offset e)
+    by-answer (end offset) g stuck e = absurd (not-at-end (someNotNone (x .walk .passed)) offset e)
     by-answer (refusal k begin m offset) g stuck e = let z : _≡_ {A = ℕ} 0 1 = cc in absurd (omega arith)
 
--- Every text, of any length, has one run of lexemes from every offset: up to the end, or to the first refusal.
+-- Every text, of any length, has one run of lexemes from every offset, up to its end or the first refusal; they follow one another, each
+-- the longest and in one class.
 pub one-run : (s : List ℕ) (from : ℕ)
-    → (w : Walk Always s from) × ((v : Walk Always s from) → (v .passed ≡ w .passed) × (v .to ≡ w .to) × (v .there ≡ w .there))
-one-run s from = let w = run s from in (w, λ v. walk-one Always s from v w)
+    → (w : Walk Always s from) ×
+    Follow from (w .passed) (w .to) ×
+    Every (λ t. InOneClass s (t .start) (t .length) (tokenOf t)) (w .passed) ×
+    ((v : Walk Always s from) → (v .passed ≡ w .passed) × (v .to ≡ w .to) × (v .there ≡ w .there))
+one-run s from =
+    let w = run s from in (
+      w,
+      passes-follow Always s [] from (w .passed) (w .to) (w .passes),
+      passes-each Always s [] from (w .passed) (w .to) (w .passes),
+      λ v. walk-one Always s from v w,
+    )

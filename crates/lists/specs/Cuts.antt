@@ -24,24 +24,26 @@ pub data CutAnswer : Type 0 where
 abbrev pub NoSemi : Goes
 NoSemi before t = t .kind ≡ kind "TK_SEMI" → ⊥
 
--- a token of this kind is not TK_NONE; one of these is not
-abbrev pub counts : ℕ → Bool
-counts k = not (eqb k (kind "TK_NONE"))
+abbrev pub notNone : ℕ → Bool
+notNone k = not (eqb k (kind "TK_NONE"))
 
-unfoldable pub hasToken : List Legal → Bool
-hasToken [] = false
-hasToken (t ∷ l) = counts (t .kind) || hasToken l
+-- one of these is not TK_NONE
+unfoldable pub someNotNone : List Legal → Bool
+someNotNone [] = false
+someNotNone (t ∷ l) = notNone (t .kind) || someNotNone l
 
--- The answer by what stops the walk: a semicolon, up to and with which the span goes; the end, or a refusal.
+-- the answer by what Next gives where the walk stops: a semicolon, up to and with which the span goes; the end; or a refusal, which keeps
+-- its span and takes the offset given
 abbrev pub cutAnswer : ℕ → Bool → Answer → CutAnswer
 cutAnswer from tokens (token k start n next) = cut from (next - from) tokens next
 cutAnswer from true (end offset) = opened from (offset - from) offset
 cutAnswer from false (end offset) = ended offset 0 offset
 cutAnswer from tokens (refusal number start n offset) = refused number start n from
 
+-- the cut from a place of a text
 pub record Cutting (s : List ℕ) (from : ℕ) (answer : CutAnswer) : Type 0 where
   pub walk : Walk NoSemi s from
-  pub answers : answer ≡ cutAnswer from (hasToken (walk .passed)) (walk .there)
+  pub answers : answer ≡ cutAnswer from (someNotNone (walk .passed)) (walk .there)
 
 -- what each case of an answer says
 abbrev pub valuesOf : Statement → CutAnswer

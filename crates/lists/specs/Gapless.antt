@@ -24,11 +24,11 @@ Follow from (t ∷ l) to = (t .start ≡ from) × (0 < t .length) × Follow (fro
 
 -- where they end: past the end of the text, at its end, at a malformed lexeme, or at a legal one for which there is no room
 abbrev pub Ends : List ℕ → ℕ → List Legal → ℕ → Answer → Type 0
-Ends s numbers lexemes to a =
+Ends s room lexemes to a =
     ((length s < to) × (a ≡ refusal (refusalNumber "OffsetPastEnd") 0 0 to)) ⊎
     ((to ≡ length s) × (a ≡ end to)) ⊎
     ((number : ℕ) × (start : ℕ) × (m : ℕ) × (offset : ℕ) × (n : ℕ) × (a ≡ refusal number start m offset) × InOneClass s to n a) ⊎
-    ((t : Legal) × InOneClass s to (t .length) (tokenOf t) × (HasRoom numbers lexemes t → ⊥) ×
+    ((t : Legal) × InOneClass s to (t .length) (tokenOf t) × (HasRoom room lexemes t → ⊥) ×
     (a ≡ refusal (refusalNumber "ListFull") to 0 to))
 
 -- the whole: the answer and the records written belong to such lexemes, and the list begins with their records

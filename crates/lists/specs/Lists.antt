@@ -18,32 +18,22 @@ unfoldable pub recordsOf : List Legal → List ℕ
 recordsOf [] = []
 recordsOf (t ∷ l) = recordOf t ++ recordsOf l
 
--- a list of so many numbers has a whole record free behind those before
+-- in a list of so many numbers a whole record is free behind those of `before`
 abbrev pub HasRoom : ℕ → Goes
-HasRoom numbers before t = length (recordsOf before) + length (recordOf t) ≤ numbers
+HasRoom room before t = length (recordsOf before) + length (recordOf t) ≤ room
 
--- the answer where the walk stops: what Next gives there; but a legal lexeme has no place
+-- the answer by what Next gives where the walk stops: End and a refusal as they are; a legal lexeme has no place
 abbrev pub listAnswer : ℕ → Answer → Answer
 listAnswer at (token kind start n next) = refusal (refusalNumber "ListFull") at 0 at
 listAnswer at (end offset) = end offset
 listAnswer at (refusal number start n offset) = refusal number start n offset
 
--- the longest text
-abbrev pub longest : ℕ
-longest = 65535
-
 -- List from a place of a text, lent a list: its answer, how many records it wrote, and the list afterwards
 pub record Listing (s : List ℕ) (from : ℕ) (old : List ℕ) (answer : Answer) (records : ℕ) (new : List ℕ) : Type 0 where
   pub walk : Walk (HasRoom (length old)) s from
   pub answers : answer ≡ listAnswer (walk .to) (walk .there)
-  pub counts : records ≡ length (walk .passed)
+  pub counted : records ≡ length (walk .passed)
   pub written : new ≡ recordsOf (walk .passed) ++ drop (length (recordsOf (walk .passed))) old
-
--- the same with the text's limit
-abbrev pub ListGives : List ℕ → ℕ → List ℕ → Answer → ℕ → List ℕ → Type 0
-ListGives s from old answer records new =
-    ((longest < length s) × (answer ≡ refusal (refusalNumber "TooLong") 0 0 from) × (records ≡ 0) × (new ≡ old)) ⊎
-    ((length s ≤ longest) × Listing s from old answer records new)
 
 -- what each case of an answer says, and its records
 abbrev pub answerOf : Listed → Answer
@@ -52,15 +42,22 @@ answerOf (Refused why start n records next) = refusal (numberOf why) start n (ne
 answerOf (TooLong next) = refusal (refusalNumber "TooLong") 0 0 (next .at)
 answerOf (ListFull records next) = refusal (refusalNumber "ListFull") (next .at) 0 (next .at)
 
-abbrev pub countOf : Listed → ℕ
-countOf (End records next) = records
-countOf (Refused why start n records next) = records
-countOf (TooLong next) = 0
-countOf (ListFull records next) = records
+abbrev pub recordsIn : Listed → ℕ
+recordsIn (End records next) = records
+recordsIn (Refused why start n records next) = records
+recordsIn (TooLong next) = 0
+recordsIn (ListFull records next) = records
 
+-- the longest text
+abbrev pub longest : ℕ
+longest = 65535
+
+-- the answer r, and the list afterwards: a text that is too long is refused first
 unfoldable pub Lists : List ℕ → ℕ → List ℕ → Listed → List ℕ → Type 0
-Lists s from old r new = ListGives s from old (answerOf r) (countOf r) new
+Lists s from old r new =
+    ((longest < length s) × (answerOf r ≡ refusal (refusalNumber "TooLong") 0 0 from) × (recordsIn r ≡ 0) × (new ≡ old)) ⊎
+    ((length s ≤ longest) × Listing s from old (answerOf r) (recordsIn r) new)
 
--- three numbers at a place of a list
+-- for a private function: three numbers at a place of a list
 abbrev pub put : List ℕ → ℕ → ℕ → ℕ → ℕ → List ℕ
 put l at kind start n = set (set (set l at kind) (at + 1) start) (at + 2) n

@@ -9,7 +9,7 @@ ghost use mathlib.Core.Path.{_≡_};
 ghost use mathlib.Core.Bool.{_||_};
 ghost use Prim.Native.Nat.{_≤_};
 ghost use Rattle.grammar.specs.Answers.{Answer};
-ghost use Rattle.lists.specs.Cuts.{Cuts, counts, cutAnswer, valuesOf};
+ghost use Rattle.lists.specs.Cuts.{Cuts, cutAnswer, notNone, valuesOf};
 
 // `Cut`: from the cursor up to and with the first TK_SEMI; `tokens` says whether any token that is not TK_NONE came before it.
 // `Open`: no TK_SEMI comes, and the span goes to the end of the text. `End`: nothing but TK_NONE comes; the span is (length, 0).
@@ -75,13 +75,13 @@ pub fn cut(text: &[u8], cursor: Cursor) -> Statement
                 next: behind,
             };
         }
-        tokens = or_counts(tokens, kind);
+        tokens = or_not_none(tokens, kind);
         at = behind;
     }
 }
 
-fn or_counts(tokens: bool, kind: u32) -> bool
-    ensures { λ r. ⌜ r ≡ counts kind || tokens ⌝ }
+fn or_not_none(tokens: bool, kind: u32) -> bool
+    ensures { λ r. ⌜ r ≡ notNone kind || tokens ⌝ }
 {
     if kind == TK_NONE {
         return tokens;

@@ -72,8 +72,8 @@ returns-3 c =
     let loop = c .before .before .before .before .before .before .before .loop in
     semi-cuts (loop .inv) _ _ _ _ (subst (Lexes _ _) (answer .given .1) (next .ensures)) (if1 .taken)
 
-or-counts-requires : tie.Need-or-counts-requires Inv-loop μ-loop
-or-counts-requires c κs = search needs
+or-not-none-requires : tie.Need-or-not-none-requires Inv-loop μ-loop
+or-not-none-requires c κs = search needs
 
 loop-less : tie.Need-loop-less Inv-loop μ-loop
 loop-less c =
@@ -84,12 +84,12 @@ loop-less c =
 
 loop-again : tie.Need-loop-again Inv-loop μ-loop
 loop-again c =
-    let or-counts = c .or-counts in
+    let or-not-none = c .or-not-none in
     let if1 = c .before .if1 in
     let answer = c .before .before .before .answer in
     let next = c .before .before .before .before .before .next in
     let loop = c .before .before .before .before .before .before .loop in
-    onward (loop .inv) _ _ _ _ (subst (Lexes _ _) (answer .given .1) (next .ensures)) (if1 .left) _ (or-counts .ensures)
+    onward (loop .inv) _ _ _ _ (subst (Lexes _ _) (answer .given .1) (next .ensures)) (if1 .left) _ (or-not-none .ensures)
 
 pub cut-spec : {M : Type 1} → statement M
 cut-spec =
@@ -106,6 +106,6 @@ cut-spec =
     returns-2
     sub-t13
     returns-3
-    or-counts-requires
+    or-not-none-requires
     loop-less
     loop-again)
