@@ -165,7 +165,7 @@ pub(crate) fn put_cut(out: &mut [u8], at: usize, text: &[u8], offset: usize) -> 
     }
 }
 
-// The kind's name, and 1 where an identifier with these bytes has to be quoted, else 0.
+// The kind's name, and 1 where `is_quotable_keyword` holds, else 0.
 pub(crate) fn put_word(out: &mut [u8], at: usize, names: &[u8; 2992], word: &[u8]) -> usize
     ensures { λ r. ⌜ Within (now (out .exit)) r ⌝ }
 {

@@ -12,8 +12,8 @@ use crate::row::flush;
 use crate::row::put;
 ghost use Rattle.printing.specs.Rows.{Within};
 
-// `Next`: the walk over the tokens. `List`: a list into so many of the lent numbers. `Replay`: the walk, lists of several lengths
-// and the cut.
+// What is printed of a record: `next` walked over the text, a list of so many numbers, the statement cut, the text as a word; or, for
+// `Replay`, the walk, lists of several lengths and the cut.
 pub enum Mode {
     Next,
     List(usize),

@@ -46,13 +46,11 @@ pub(crate) fn put_why(out: &mut [u8], at: usize, why: Refusal) -> usize
     }
 }
 
-// Behind a name: a span, and the offset where lexing goes on.
-fn put_span(out: &mut [u8], at: usize, start: usize, length: usize, offset: usize) -> usize
+fn put_span(out: &mut [u8], at: usize, start: usize, length: usize) -> usize
     ensures { λ r. ⌜ Within (now (out .exit)) r ⌝ }
 {
-    let placed = put_column(out, at, start);
-    let measured = put_column(out, placed, length);
-    put_column(out, measured, offset)
+    let begun = put_column(out, at, start);
+    put_column(out, begun, length)
 }
 
 // The span and the offset end the line.
@@ -65,8 +63,9 @@ pub(crate) fn put_place(
 ) -> usize
     ensures { λ r. ⌜ Within (now (out .exit)) r ⌝ }
 {
-    let spanned = put_span(out, at, start, length, offset);
-    put(out, spanned, b"\n")
+    let spanned = put_span(out, at, start, length);
+    let placed = put_column(out, spanned, offset);
+    put(out, placed, b"\n")
 }
 
 // Behind the span and the offset the number of a list's records ends the line.
@@ -80,8 +79,9 @@ pub(crate) fn put_counted_place(
 ) -> usize
     ensures { λ r. ⌜ Within (now (out .exit)) r ⌝ }
 {
-    let spanned = put_span(out, at, start, length, offset);
-    let counted = put_column(out, spanned, records);
+    let spanned = put_span(out, at, start, length);
+    let placed = put_column(out, spanned, offset);
+    let counted = put_column(out, placed, records);
     put(out, counted, b"\n")
 }
 
@@ -99,7 +99,7 @@ pub(crate) fn put_refusal(
     put_place(out, named, start, length, offset)
 }
 
-// `tokens` is whether a token that counts came before the semicolon.
+// `tokens` is whether a token that is not TK_NONE came before the semicolon.
 pub(crate) fn put_statement(
     out: &mut [u8],
     at: usize,
@@ -111,7 +111,8 @@ pub(crate) fn put_statement(
     ensures { λ r. ⌜ Within (now (out .exit)) r ⌝ }
 {
     let named = put(out, at, b"CUT");
-    let spanned = put_span(out, named, start, length, tokens as usize);
-    let placed = put_column(out, spanned, offset);
+    let spanned = put_span(out, named, start, length);
+    let told = put_column(out, spanned, tokens as usize);
+    let placed = put_column(out, told, offset);
     put(out, placed, b"\n")
 }

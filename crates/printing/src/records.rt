@@ -7,7 +7,7 @@ ghost use lib.ListN.{length};
 ghost use Rattle.printing.specs.Rows.{Inside, Holds};
 
 // The longest text of a record.
-pub(crate) const LONGEST: usize = 65536;
+pub(crate) const LONGEST_RECORD: usize = 65536;
 
 // The bytes of the row that are read and not used yet: from one place to before another.
 pub(crate) struct Unread {
@@ -119,7 +119,7 @@ pub(crate) fn read_record(row: &mut [u8], unread: Unread) -> Record
     }
     let offset = number(row, from);
     let length = number(row, from + 4);
-    if LONGEST < length {
+    if LONGEST_RECORD < length {
         return Record::Bad;
     }
     let whole = fill(row, head, 8 + length);

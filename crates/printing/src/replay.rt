@@ -56,7 +56,8 @@ fn before(n: usize) -> usize {
     if n == 0 { 0 } else { n - 1 }
 }
 
-// How many records the text has in a list with room for any: no more than the longest text has bytes.
+// How many records the text has in a list with room for any. They are no more than the longest text has bytes; `least` says so to the
+// sums above.
 fn records(text: &[u8], offset: usize, numbers: &mut [u32]) -> usize
     ensures { λ r. ⌜ r ≤ 65535 ⌝ }
 {

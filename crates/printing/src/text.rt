@@ -9,6 +9,7 @@ use lists::list::LONGEST;
 // A line for each token, then how it ended. More than 65,535 bytes are refused as TooLong.
 pub fn print_text() {
     let names = all_names();
+    // It holds one byte more than the longest text, which is enough to know that a text is too long.
     let mut text = io::large_buffer();
     let mut out = io::large_buffer();
     let n = io::read_full(STDIN_FILENO, &mut text);
