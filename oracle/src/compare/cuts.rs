@@ -21,7 +21,7 @@ const BAD: &[&[u8]] =
 pub fn families(plan: Plan) -> Vec<Family> {
     let share = plan.count / 16;
     let every = |name: &str, alphabet| Family::every(name, CUT, alphabet, 2 * share, plan.seed, true);
-    let mut families = vec![
+    vec![
         family("semicolons", 4 * share, semicolons),
         family("blanks", share, blanks),
         family("scripts", 2 * share, script),
@@ -45,14 +45,15 @@ pub fn families(plan: Plan) -> Vec<Family> {
         every("cut: statements", b"; a'1\n-"),
         every("cut: comments", b";/*-\na"),
         Family::new("cut: longest", CUT, 24 + plan.count / 200_000, makers::longest),
-    ];
-    if plan.corpus.len() > 0 {
-        families.push(family("corpus parts", share, |r, text| {
-            text.extend(plan.corpus.part(r, 400));
-            makers::offset(r, text.len())
-        }));
-    }
-    families
+    ]
+}
+
+/// Parts of the corpus.
+pub fn real(plan: Plan) -> Family {
+    family("corpus parts", plan.count / 16, |r, text| {
+        text.extend(plan.corpus.part(r, 400));
+        makers::offset(r, text.len())
+    })
 }
 
 fn family<'a>(name: &str, count: u64, make: impl Fn(&mut Random, &mut Vec<u8>) -> usize + Sync + 'a) -> Family<'a> {

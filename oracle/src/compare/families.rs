@@ -41,6 +41,12 @@ pub fn all(plan: Plan) -> Vec<Family> {
     families.extend(lists::families(tenths(2)));
     families.extend(cuts::families(tenths(2)));
     families.extend(words::families(tenths(1)));
+    // A text depends on its family's place in this list. Real SQL is last, so that the others are the same without it.
+    if plan.corpus.len() > 0 {
+        families.extend(walks::real(tenths(5)));
+        families.push(lists::real(tenths(2)));
+        families.push(cuts::real(tenths(2)));
+    }
     families
 }
 

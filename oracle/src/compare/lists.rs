@@ -13,7 +13,7 @@ const PIECE: u64 = 1_000;
 
 pub fn families(plan: Plan) -> Vec<Family> {
     let share = plan.count / 8;
-    let mut families = vec![
+    vec![
         fitted(4 * share),
         family("lexemes", share, |r, text| {
             makers::several_lexemes(r, text);
@@ -27,14 +27,15 @@ pub fn families(plan: Plan) -> Vec<Family> {
         every(plan, share),
         whole(8 + plan.count / 400_000),
         Family::new("list: longest", small, 48 + plan.count / 20_000, makers::longest).in_pieces_of(3),
-    ];
-    if plan.corpus.len() > 0 {
-        families.push(family("corpus parts", share, |r, text| {
-            text.extend(plan.corpus.part(r, 60));
-            makers::offset(r, text.len())
-        }));
-    }
-    families
+    ]
+}
+
+/// Parts of the corpus.
+pub fn real(plan: Plan) -> Family {
+    family("corpus parts", plan.count / 8, |r, text| {
+        text.extend(plan.corpus.part(r, 60));
+        makers::offset(r, text.len())
+    })
 }
 
 /// The numbers lent to the texts of a piece: 0 to 7 by turns in every other piece, 8 to 64 in those between.

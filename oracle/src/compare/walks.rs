@@ -1,4 +1,4 @@
-//! Texts for Next: by rules of many sorts, then all texts over small alphabets; real SQL besides.
+//! Texts for Next: by rules of many sorts, then all texts over small alphabets; real SQL apart.
 
 use super::alphabets::{ALL_BYTES, ALPHABETS};
 use super::damage::{damage, SPECIAL};
@@ -31,9 +31,6 @@ pub fn families(plan: Plan) -> Vec<Family> {
     let every = |name: &str, alphabet| Family::every(&format!("next: {name}"), NEXT, alphabet, share, plan.seed, false);
     families.extend(ALPHABETS.iter().map(|(name, alphabet)| every(name, alphabet)));
     families.push(every("bytes", ALL_BYTES));
-    if plan.corpus.len() > 0 {
-        families.extend(real(plan, share));
-    }
     families
 }
 
@@ -56,8 +53,8 @@ fn keywords(r: &mut Random, text: &mut Vec<u8>) {
 }
 
 /// The corpus, parts of it, and damaged parts.
-fn real(plan: Plan, share: u64) -> [Family; 3] {
-    let corpus = plan.corpus;
+pub fn real(plan: Plan) -> [Family; 3] {
+    let (corpus, share) = (plan.corpus, plan.count / 16);
     [
         Family::new("next: corpus whole", NEXT, corpus.len() as u64, |index, _, text| {
             text.extend(corpus.whole(index as usize));
