@@ -3,9 +3,8 @@
 use Prim.Native.Nat.{ℕ, _+_, _≤_, _<_}
 use native.Mathlib.Omega.{arith}
 use mathlib.Core.Path.{_≡_, refl, _∙_, ap, subst}
-use mathlib.Core.Bool.{Bool, true, false, true≢false}
 use mathlib.Core.List.{List}
-use mathlib.Core.Logic.{inl, inr}
+use mathlib.Core.Logic.{_⊎_, inl, inr}
 use lib.ListN.{length, take, drop, length-drop}
 use lib.Seq.{length-take-le}
 use Rattle.grammar.specs.Classes.{Class, rules, blankRun, lineComment, blockComment, operator, string, quotedName, integer}
@@ -17,38 +16,51 @@ use Rattle.grammar.specs.Longest.{Longest, Gives}
 use Rattle.grammar.proofs.Lexemes as Lexemes
 use Rattle.grammar.proofs.Theorems.{sound}
 
--- whichever the class, a token has its lexeme's place
-token-place : (c : Class) (at : ℕ) (w : List ℕ) (k start n next : ℕ) → token k start n next ≡ answer c at w
-    → (start ≡ at) × (n ≡ length w) × (next ≡ at + length w)
-unfolding answer
-token-place blankRun at w k start n next e = (cc, cc, cc)
-token-place lineComment at w k start n next e = (cc, cc, cc)
-token-place blockComment at w k start n next e = (cc, cc, cc)
-token-place operator at w k start n next e = (cc, cc, cc)
-token-place string at w k start n next e = (cc, cc, cc)
-token-place quotedName at w k start n next e = (cc, cc, cc)
-token-place integer at w k start n next e = (cc, cc, cc)
-token-place float at w k start n next e = (cc, cc, cc)
-token-place blob at w k start n next e = (cc, cc, cc)
-token-place parameter at w k start n next e = (cc, cc, cc)
-token-place word at w k start n next e = (cc, cc, cc)
-token-place illegal at w k start n next e = (cc, cc, cc)
-token-place unrecognized at w k start n next e = (cc, cc, cc)
-token-place bang at w k start n next e = (cc, cc, cc)
-token-place openQuote at w k start n next e = (cc, cc, cc)
-token-place openBlob at w k start n next e = (cc, cc, cc)
-token-place oddBlob at w k start n next e = (cc, cc, cc)
-token-place badParameter at w k start n next e = (cc, cc, cc)
-token-place underscore at w k start n next e = (cc, cc, cc)
-token-place wordAfterInteger at w k start n next e = (cc, cc, cc)
-token-place wordAfterFraction at w k start n next e = (cc, cc, cc)
-token-place noExponent at w k start n next e = (cc, cc, cc)
-token-place wordAfterExponent at w k start n next e = (cc, cc, cc)
-token-place noHexdigit at w k start n next e = (cc, cc, cc)
-token-place underscoreAfterX at w k start n next e = (cc, cc, cc)
-token-place hexUnderscore at w k start n next e = (cc, cc, cc)
-token-place wordAfterHex at w k start n next e = (cc, cc, cc)
+-- a token of m bytes at an offset, or a refusal
+abbrev Shape : ℕ → ℕ → Answer → Type 0
+Shape at m a = ((k : ℕ) × (a ≡ token k at m (at + m))) ⊎ ((k : ℕ) × (start : ℕ) × (n : ℕ) × (offset : ℕ) × (a ≡ refusal k start n offset))
 
+-- whichever the class, its answer is one or the other; a token is the whole lexeme
+shape : (c : Class) (at : ℕ) (w : List ℕ) → Shape at (length w) (answer c at w)
+unfolding answer
+shape blankRun at w = inl (_, refl)
+shape lineComment at w = inl (_, refl)
+shape blockComment at w = inl (_, refl)
+shape operator at w = inl (_, refl)
+shape string at w = inl (_, refl)
+shape quotedName at w = inl (_, refl)
+shape integer at w = inl (_, refl)
+shape float at w = inl (_, refl)
+shape blob at w = inl (_, refl)
+shape parameter at w = inl (_, refl)
+shape word at w = inl (_, refl)
+shape illegal at w = inl (_, refl)
+shape unrecognized at w = inr (_, _, _, _, refl)
+shape bang at w = inr (_, _, _, _, refl)
+shape openQuote at w = inr (_, _, _, _, refl)
+shape openBlob at w = inr (_, _, _, _, refl)
+shape oddBlob at w = inr (_, _, _, _, refl)
+shape badParameter at w = inr (_, _, _, _, refl)
+shape underscore at w = inr (_, _, _, _, refl)
+shape wordAfterInteger at w = inr (_, _, _, _, refl)
+shape wordAfterFraction at w = inr (_, _, _, _, refl)
+shape noExponent at w = inr (_, _, _, _, refl)
+shape wordAfterExponent at w = inr (_, _, _, _, refl)
+shape noHexdigit at w = inr (_, _, _, _, refl)
+shape underscoreAfterX at w = inr (_, _, _, _, refl)
+shape hexUnderscore at w = inr (_, _, _, _, refl)
+shape wordAfterHex at w = inr (_, _, _, _, refl)
+
+token-place : {at m : ℕ} {a : Answer} → Shape at m a → (k start n next : ℕ) → token k start n next ≡ a
+    → (start ≡ at) × (n ≡ m) × (next ≡ at + m)
+token-place (inl (j, f)) k start n next e = let g = e ∙ f in (cc, cc, cc)
+token-place (inr (j, from, m, to, f)) k start n next e = let g = e ∙ f in let z : _≡_ {A = ℕ} 0 1 = cc in absurd (omega arith)
+
+not-end : {at m : ℕ} {a : Answer} → Shape at m a → (offset : ℕ) → end offset ≡ a → ⊥
+not-end (inl (j, f)) offset e = let g = e ∙ f in let z : _≡_ {A = ℕ} 0 1 = cc in omega arith
+not-end (inr (j, from, m, to, f)) offset e = let g = e ∙ f in let z : _≡_ {A = ℕ} 0 1 = cc in omega arith
+
+-- what a token that Next gives tells
 pub record Told (s : List ℕ) (at k start n next : ℕ) : Type 0 where
   pub starts : start ≡ at
   pub goes : next ≡ at + n
@@ -62,7 +74,7 @@ pub told : (s : List ℕ) (at k start n next : ℕ) → Gives rules s at (token 
 told s at k start n next (inl (l, e)) = let z : _≡_ {A = ℕ} 0 1 = cc in absurd (omega arith)
 told s at k start n next (inr (inl (l, e))) = let z : _≡_ {A = ℕ} 0 1 = cc in absurd (omega arith)
 told s at k start n next (inr (inr (l, (c, m, h, e)))) =
-    let (p, q, r) = token-place c at (take m (drop at s)) k start n next e in
+    let (p, q, r) = token-place (shape c at (take m (drop at s))) k start n next e in
     let t = length-take-le m (drop at s) (h .stands .0) in
     let i = h .stands .0 in
     let d = length-drop at s in
@@ -78,43 +90,7 @@ told s at k start n next (inr (inr (l, (c, m, h, e)))) =
       gives = e ∙ ap (λ (l : ℕ). answer c at (take l (drop at s))) n-is;
     }
 
-abbrev isEnd : Answer → Bool
-isEnd (token k start n next) = false
-isEnd (end offset) = true
-isEnd (refusal k start n offset) = false
-
--- no class answers End
-not-end : (c : Class) (at : ℕ) (w : List ℕ) → isEnd (answer c at w) ≡ false
-unfolding answer
-not-end blankRun at w = refl
-not-end lineComment at w = refl
-not-end blockComment at w = refl
-not-end operator at w = refl
-not-end string at w = refl
-not-end quotedName at w = refl
-not-end integer at w = refl
-not-end float at w = refl
-not-end blob at w = refl
-not-end parameter at w = refl
-not-end word at w = refl
-not-end illegal at w = refl
-not-end unrecognized at w = refl
-not-end bang at w = refl
-not-end openQuote at w = refl
-not-end openBlob at w = refl
-not-end oddBlob at w = refl
-not-end badParameter at w = refl
-not-end underscore at w = refl
-not-end wordAfterInteger at w = refl
-not-end wordAfterFraction at w = refl
-not-end noExponent at w = refl
-not-end wordAfterExponent at w = refl
-not-end noHexdigit at w = refl
-not-end underscoreAfterX at w = refl
-not-end hexUnderscore at w = refl
-not-end wordAfterHex at w = refl
-
 pub end-told : (s : List ℕ) (at offset : ℕ) → Gives rules s at (end offset) → (at ≡ length s) × (offset ≡ at)
-end-told s at offset (inl (l, e)) = absurd (true≢false (ap isEnd e))
+end-told s at offset (inl (l, e)) = let z : _≡_ {A = ℕ} 0 1 = cc in absurd (omega arith)
 end-told s at offset (inr (inl (l, e))) = (l, cc)
-end-told s at offset (inr (inr (l, (c, m, h, e)))) = absurd (true≢false (ap isEnd e ∙ not-end c at (take m (drop at s))))
+end-told s at offset (inr (inr (l, (c, m, h, e)))) = absurd (not-end (shape c at (take m (drop at s))) offset e)

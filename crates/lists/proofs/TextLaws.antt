@@ -24,7 +24,7 @@ use Rattle.lists.specs.Texts.{CutRow, cuts, ListRow, lists}
 use Rattle.lists.proofs.WalkLaws.{legal, legalOf, Stuck, token-passes, end-no-token, refusal-no-token}
 
 -- a walk as the model computes it, with a test for what it passes: where it stops, or nothing if that takes more steps than these
-pub data Stop : Type 0 where
+data Stop : Type 0 where
   nowhere : Stop
   stop : (passed : List Legal) (to : ℕ) (there : Answer) → Stop
 
