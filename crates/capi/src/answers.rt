@@ -1,16 +1,28 @@
-// Answers in numbers: a status, and four numbers beside it.
+// Answers in numbers.
+use lexer::cursor::Cursor;
 use lexer::lexed::Lexed;
 use lexer::lexed::Refusal;
 use lists::cut::Statement;
 use lists::list::Listed;
+ghost use mathlib.Core.Path.{_≡_};
+ghost use Rattle.lexer.specs.Values.{numberOf};
+ghost use Rattle.lists.specs.Lists.{recordsIn};
+ghost use Rattle.capi.specs.Numbers.{five, ofNext, ofList, ofCut, written};
 
-// The statuses that are no refusal.
-pub const END: u32 = 0;
-pub const TOKEN: u32 = 100;
-pub const CUT: u32 = 101;
-pub const OPEN: u32 = 102;
+// The statuses that are no refusal, and the refusals that List adds.
+pub(crate) const END: u32 = 0;
 
-pub(crate) struct Answer {
+pub(crate) const TOO_LONG: u32 = 9;
+
+pub(crate) const LIST_FULL: u32 = 10;
+
+pub(crate) const TOKEN: u32 = 100;
+
+pub(crate) const CUT: u32 = 101;
+
+pub(crate) const OPEN: u32 = 102;
+
+pub(crate) struct Numbers {
     status: u32,
     value: usize,
     start: usize,
@@ -18,15 +30,29 @@ pub(crate) struct Answer {
     next: usize,
 }
 
-pub(crate) fn give(given: Answer, answer: &mut [usize; 4]) -> u32 {
-    answer[0] = given.value;
-    answer[1] = given.start;
-    answer[2] = given.length;
-    answer[3] = given.next;
+fn five(status: u32, value: usize, start: usize, bytes: usize, next: Cursor) -> Numbers
+    ensures { λ r. ⌜ r ≡ five status value start bytes (next .at) ⌝ }
+{
+    Numbers {
+        status,
+        value,
+        start,
+        length: bytes,
+        next: next.at,
+    }
+}
+
+// Writes all but the status, which it returns.
+pub(crate) fn give(given: Numbers, answer: &mut [usize; 4]) -> u32
+    ensures { λ r. ⌜ (r ≡ given .status) × (now (answer .exit) ≡ written given) ⌝ }
+{
+    *answer = [given.value, given.start, given.length, given.next];
     given.status
 }
 
-fn number_of(why: Refusal) -> u32 {
+fn number_of(why: Refusal) -> u32
+    ensures { λ r. ⌜ r ≡ numberOf why ⌝ }
+{
     match why {
         Refusal::UnrecognizedToken => 1,
         Refusal::UnterminatedLiteral => 2,
@@ -39,82 +65,71 @@ fn number_of(why: Refusal) -> u32 {
     }
 }
 
-pub(crate) fn answer_of_next(answer: Lexed) -> Answer {
+pub(crate) fn of_next(answer: Lexed) -> Numbers
+    ensures { λ r. ⌜ r ≡ ofNext answer ⌝ }
+{
     match answer {
         Lexed::Token {
             kind,
             start,
             length,
             next,
-        } => Answer {
-            status: TOKEN,
-            value: kind as usize,
-            start,
-            length,
-            next: next.at,
-        },
-        Lexed::End { next } => Answer {
-            status: END,
-            value: 0,
-            start: next.at,
-            length: 0,
-            next: next.at,
-        },
+        } => five(TOKEN, kind as usize, start, length, next),
+        Lexed::End { next } => five(END, 0, next.at, 0, next),
         Lexed::Refused {
             why,
             start,
             length,
             next,
-        } => Answer {
-            status: number_of(why),
-            value: 0,
-            start,
-            length,
-            next: next.at,
-        },
+        } => five(number_of(why), 0, start, length, next),
     }
 }
 
-pub(crate) fn answer_of_list(answer: Listed) -> Answer {
+pub(crate) fn of_list(answer: Listed) -> Numbers
+    ensures { λ r. ⌜ r ≡ ofList answer ⌝ }
+{
     match answer {
-        Listed::End { records, next } => Answer {
-            status: END,
-            value: records,
-            start: next.at,
-            length: 0,
-            next: next.at,
-        },
+        Listed::End { records, next } => five(END, records, next.at, 0, next),
         Listed::Refused {
             why,
             start,
             length,
             records,
             next,
-        } => Answer {
-            status: number_of(why),
-            value: records,
-            start,
-            length,
-            next: next.at,
-        },
-        Listed::TooLong { next } => Answer {
-            status: 9,
-            value: 0,
-            start: 0,
-            length: 0,
-            next: next.at,
-        },
-        Listed::ListFull { records, next } => Answer {
-            status: 10,
-            value: records,
-            start: next.at,
-            length: 0,
-            next: next.at,
-        },
+        } => five(number_of(why), records, start, length, next),
+        Listed::TooLong { next } => five(TOO_LONG, 0, 0, 0, next),
+        Listed::ListFull { records, next } => five(LIST_FULL, records, next.at, 0, next),
     }
 }
 
-pub(crate) fn records_in(answer: Listed) -> usize {
+pub(crate) fn of_cut(answer: Statement) -> Numbers
+    ensures { λ r. ⌜ r ≡ ofCut answer ⌝ }
+{
+    match answer {
+        Statement::Cut {
+            start,
+            length,
+            tokens,
+            next,
+        } => five(CUT, tokens as usize, start, length, next),
+        Statement::Open {
+            start,
+            length,
+            next,
+        } => five(OPEN, 1, start, length, next),
+        Statement::End { next } => five(END, 0, next.at, 0, next),
+        Statement::Refused {
+            why,
+            start,
+            length,
+            next,
+        } => five(number_of(why), 0, start, length, next),
+    }
+}
+
+pub(crate) fn records_in(answer: Listed) -> usize
+    ensures { λ r. ⌜ r ≡ recordsIn answer ⌝ }
+{
     match answer {
         Listed::End { records, next: _ } => records,
         Listed::Refused {
@@ -126,52 +141,5 @@ pub(crate) fn records_in(answer: Listed) -> usize {
         } => records,
         Listed::TooLong { next: _ } => 0,
         Listed::ListFull { records, next: _ } => records,
-    }
-}
-
-pub(crate) fn answer_of_cut(answer: Statement) -> Answer {
-    match answer {
-        Statement::Cut {
-            start,
-            length,
-            tokens,
-            next,
-        } => Answer {
-            status: CUT,
-            value: tokens as usize,
-            start,
-            length,
-            next: next.at,
-        },
-        Statement::Open {
-            start,
-            length,
-            next,
-        } => Answer {
-            status: OPEN,
-            value: 1,
-            start,
-            length,
-            next: next.at,
-        },
-        Statement::End { next } => Answer {
-            status: END,
-            value: 0,
-            start: next.at,
-            length: 0,
-            next: next.at,
-        },
-        Statement::Refused {
-            why,
-            start,
-            length,
-            next,
-        } => Answer {
-            status: number_of(why),
-            value: 0,
-            start,
-            length,
-            next: next.at,
-        },
     }
 }
