@@ -31,9 +31,9 @@ pub fn list(numbers: &mut [u32], text: &[u8], offset: usize) -> io::Result<(Stop
     Ok((full.unwrap_or(stop), records))
 }
 
-pub enum Cut {
+pub enum Statement {
     /// Up to and with the first TK_SEMI: start, length, whether a token but TK_NONE came before it, offset.
-    Statement(usize, usize, bool, usize),
+    Cut(usize, usize, bool, usize),
     /// No TK_SEMI, and a token but TK_NONE: start, length, offset.
     Open(usize, usize, usize),
     /// Blanks and comments alone, or nothing: the text's length.
@@ -43,7 +43,7 @@ pub enum Cut {
 }
 
 /// The statement at the offset. A refusal keeps the offset that was given.
-pub fn cut(text: &[u8], offset: usize) -> io::Result<Cut> {
+pub fn cut(text: &[u8], offset: usize) -> io::Result<Statement> {
     let (mut semi, mut any) = (None, false);
     let stop = walk(text, offset, |kind, start, length| {
         if kind == TK_SEMI && semi.is_none() {
@@ -53,9 +53,9 @@ pub fn cut(text: &[u8], offset: usize) -> io::Result<Cut> {
         Ok(())
     })?;
     Ok(match (semi, stop) {
-        (Some((before, end)), _) => Cut::Statement(offset, end - offset, before, end),
-        (None, Stop::Refusal(name, start, length, _)) => Cut::Refusal(name, start, length, offset),
-        (None, Stop::End(end)) if any => Cut::Open(offset, end - offset, end),
-        (None, Stop::End(end)) => Cut::End(end),
+        (Some((before, end)), _) => Statement::Cut(offset, end - offset, before, end),
+        (None, Stop::Refusal(name, start, length, _)) => Statement::Refusal(name, start, length, offset),
+        (None, Stop::End(end)) if any => Statement::Open(offset, end - offset, end),
+        (None, Stop::End(end)) => Statement::End(end),
     })
 }

@@ -1,7 +1,7 @@
 //! What is asked of each record, and how the answers are printed; an empty line ends those of a record.
 
 use crate::lexer::{is_quotable_keyword, word_kind};
-use crate::list::{self, Cut};
+use crate::list::{self, Statement};
 use crate::walk::{walk, Stop};
 use std::io::{self, Write};
 
@@ -91,10 +91,10 @@ fn print_list(out: &mut impl Write, n: usize, offset: usize, text: &[u8]) -> io:
 
 fn print_cut(out: &mut impl Write, offset: usize, text: &[u8]) -> io::Result<()> {
     match list::cut(text, offset)? {
-        Cut::Statement(start, length, any, end) => writeln!(out, "CUT\t{start}\t{length}\t{}\t{end}\n", u8::from(any)),
-        Cut::Open(start, length, end) => writeln!(out, "OPEN\t{start}\t{length}\t{end}\n"),
-        Cut::End(end) => writeln!(out, "END\t{end}\t0\t{end}\n"),
-        Cut::Refusal(name, start, length, offset) => writeln!(out, "{name}\t{start}\t{length}\t{offset}\n"),
+        Statement::Cut(start, length, any, end) => writeln!(out, "CUT\t{start}\t{length}\t{}\t{end}\n", u8::from(any)),
+        Statement::Open(start, length, end) => writeln!(out, "OPEN\t{start}\t{length}\t{end}\n"),
+        Statement::End(end) => writeln!(out, "END\t{end}\t0\t{end}\n"),
+        Statement::Refusal(name, start, length, offset) => writeln!(out, "{name}\t{start}\t{length}\t{offset}\n"),
     }
 }
 

@@ -3,7 +3,7 @@
 use std::io::{self, ErrorKind};
 
 /// The longest text of a record: one byte more than List takes.
-pub const LONGEST: usize = 65_536;
+pub const LONGEST_RECORD: usize = 65_536;
 
 pub struct Records<R> {
     input: R,
@@ -33,7 +33,7 @@ impl<R: io::Read> Records<R> {
             _ => return Ok(Read::Bad),
         }
         let [offset, length] = [0, 4].map(|at| number(&head[at..at + 4]));
-        if length > LONGEST {
+        if length > LONGEST_RECORD {
             return Ok(Read::Bad);
         }
         self.text.resize(length, 0);

@@ -1,7 +1,7 @@
 //! Real SQL: the files of a folder, whole and in pieces.
 
 use super::random::Random;
-use crate::records::LONGEST;
+use crate::records::LONGEST_RECORD;
 use std::fs;
 use std::io;
 use std::path::Path;
@@ -20,7 +20,7 @@ impl Corpus {
                 inside.sort();
                 waiting.extend(inside.into_iter().rev());
             } else {
-                corpus.0.extend(fs::read(path)?.chunks(LONGEST).map(<[u8]>::to_vec));
+                corpus.0.extend(fs::read(path)?.chunks(LONGEST_RECORD).map(<[u8]>::to_vec));
             }
         }
         Ok(corpus)

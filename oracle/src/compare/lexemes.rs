@@ -181,7 +181,7 @@ pub fn spell(r: &mut Random, word: &mut [u8]) {
     match r.below(4) {
         0 => word.make_ascii_lowercase(),
         1 => word.make_ascii_uppercase(),
-        _ => word.iter_mut().filter(|_| r.once_in(2)).for_each(|b| b.make_ascii_lowercase()),
+        _ => word.iter_mut().filter(|b| b.is_ascii_alphabetic() && r.once_in(2)).for_each(|b| *b ^= 0x20),
     }
 }
 

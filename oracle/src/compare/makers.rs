@@ -2,7 +2,7 @@
 
 use super::random::Random;
 use super::{lexemes, statements};
-use crate::records::LONGEST;
+use crate::records::LONGEST_RECORD;
 
 pub fn several_lexemes(r: &mut Random, text: &mut Vec<u8>) {
     for _ in 0..=r.below(8) {
@@ -32,16 +32,16 @@ pub fn offset(r: &mut Random, length: usize) -> usize {
 /// A run that goes on for up to as many bytes as a record holds, between other lexemes.
 pub fn long(r: &mut Random, text: &mut Vec<u8>) {
     several_lexemes(r, text);
-    let length = r.size(LONGEST);
+    let length = r.size(LONGEST_RECORD);
     run(r, text, length);
     several_lexemes(r, text);
-    text.truncate(LONGEST);
+    text.truncate(LONGEST_RECORD);
 }
 
 /// As long as a record holds, or a byte shorter, which List takes, or two. The offset is near the start or the end, at the end
 /// or past it: in each 24 texts every length has every sort of offset.
 pub fn longest(index: u64, r: &mut Random, text: &mut Vec<u8>) -> usize {
-    let length = LONGEST - (index % 3) as usize;
+    let length = LONGEST_RECORD - (index % 3) as usize;
     match r.below(4) {
         0 => (0..length).for_each(|_| text.push(r.byte_of(b"  \t\n"))),
         1 => run(r, text, length - 40),
