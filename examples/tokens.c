@@ -1,0 +1,60 @@
+/*
+ * Prints the tokens of a text as the program sqllex does: a line for each with its kind, start and length, then how it ended.
+ * tokens [FILE] reads FILE, or standard input. It keeps the text and one short list, and no heap.
+ *
+ *     rt staticlib capi
+ *     cc -Iinclude -o tokens examples/tokens.c target/staticlib/libcapi.a
+ */
+#include <inttypes.h>
+#include <stdio.h>
+
+#include "sqllex.h"
+
+/* One byte more than a list takes, so that a longer text is seen to be too long. */
+static uint8_t text[SQLLEX_LONGEST + 1];
+
+/* Sixteen records at a time. */
+static uint32_t list[16 * SQLLEX_RECORD_WIDTH];
+
+#define KIND_NAME(kind) [SQLLEX_##kind] = #kind,
+static const char *const kind_names[] = {SQLLEX_KINDS(KIND_NAME)};
+
+#define REFUSAL_NAME(constant, name) [SQLLEX_##constant] = #name,
+static const char *const refusal_names[] = {SQLLEX_REFUSALS(REFUSAL_NAME)};
+
+static void print_records(size_t records)
+{
+    for (size_t i = 0; i < records; i++) {
+        const uint32_t *record = list + i * SQLLEX_RECORD_WIDTH;
+        printf("%s\t%" PRIu32 "\t%" PRIu32 "\n", kind_names[record[0]], record[1], record[2]);
+    }
+}
+
+/* A full list is printed, and filled again from where it ended. */
+static void print_tokens(size_t text_length)
+{
+    sqllex_answer answer = {0, 0, 0, 0};
+    size_t tokens = 0;
+    uint32_t status;
+    do {
+        status = sqllex_list_from(text, text_length, answer.next, list, sizeof list / sizeof *list, &answer);
+        print_records(answer.value);
+        tokens += answer.value;
+    } while (status == SQLLEX_LIST_FULL);
+    if (status == SQLLEX_END)
+        printf("END\t%zu\t%zu\n", answer.next, tokens);
+    else
+        printf("%s\t%zu\t%zu\t%zu\n", refusal_names[status], answer.start, answer.length, answer.next);
+}
+
+int main(int argc, char **argv)
+{
+    FILE *in = argc > 1 ? fopen(argv[1], "rb") : stdin;
+    size_t text_length = in != NULL ? fread(text, 1, sizeof text, in) : 0;
+    if (in == NULL || ferror(in)) {
+        perror("tokens");
+        return 2;
+    }
+    print_tokens(text_length);
+    return 0;
+}

@@ -1,0 +1,357 @@
+/*
+ * sqllex.h: a SQL lexer for C, C++ and, by the same names, Rust.
+ *
+ * Declares the calls of target/staticlib/libcapi.a, which `rt staticlib capi` proves and builds from crates/capi. The archive is
+ * code for x86-64 Linux, needs no other library, and follows that system's calling convention (SSE registers and the red zone
+ * included). tests/header fails where this file and the code part ways.
+ *
+ * What every call does. It returns, whatever the bytes; a text may hold any bytes, zeros too, and needs no zero behind it. It reads
+ * the text alone, and writes only the list's first numbers and the answer, as said below. It uses no heap, no variable of its own
+ * outside the stack and no call of the system, so that any number of threads may call at once, on one text too.
+ *
+ * What a caller owes. Nothing tests these: a call that breaks one has no meaning.
+ * - A text or a word is two arguments, where its first byte is and how many bytes there are; a list as well, where its length is
+ *   the number of its uint32_t (not of bytes, not of records). So many must be there, in one object that lives until the call
+ *   returns. With a length of 0 nothing is read or written there, and the pointer may be null.
+ * - A list is aligned as uint32_t is, and an answer as size_t is; an answer is never null. Neither needs values beforehand.
+ * - Text, list and answer of one call do not overlap, and nobody else writes to them while it runs: no thread, interrupt or DMA.
+ * - An offset may be any number. One past the end is refused and reads nothing.
+ */
+#ifndef SQLLEX_H
+#define SQLLEX_H
+
+#include <stddef.h>
+#include <stdint.h>
+#ifndef __cplusplus
+#include <stdbool.h>
+#endif
+
+/*
+ * What a call says beside its status. A call writes all four, whatever the status. `start` and `length` are a span of the text in
+ * bytes; places count from the text's first byte, wherever lexing began. `next` is the offset to go on from.
+ */
+typedef struct sqllex_answer {
+    size_t value; /* the kind (next), the number of records (list_from), whether tokens came (cut) */
+    size_t start;
+    size_t length;
+    size_t next;
+} sqllex_answer;
+
+#if defined(__cplusplus) && __cplusplus >= 201103L
+static_assert(sizeof(sqllex_answer) == 32, "the library's answers are four words of 8 bytes");
+#elif defined(__STDC_VERSION__) && __STDC_VERSION__ >= 201112L
+_Static_assert(sizeof(sqllex_answer) == 32, "the library's answers are four words of 8 bytes");
+#endif
+
+/* Statuses: 0, nothing is left; 1 to 99, a refusal; from 100 on, a find. */
+#define SQLLEX_END 0u
+#define SQLLEX_UNRECOGNIZED_TOKEN 1u
+#define SQLLEX_UNTERMINATED_LITERAL 2u
+#define SQLLEX_BAD_NUMBER 3u
+#define SQLLEX_BAD_FRACTIONAL_PART 4u
+#define SQLLEX_BAD_EXPONENT_PART 5u
+#define SQLLEX_MALFORMED_HEX_INTEGER 6u
+#define SQLLEX_EXPECTED_EQUALS_SIGN 7u
+#define SQLLEX_OFFSET_PAST_END 8u
+#define SQLLEX_TOO_LONG 9u
+#define SQLLEX_LIST_FULL 10u
+#define SQLLEX_TOKEN 100u
+#define SQLLEX_CUT 101u
+#define SQLLEX_OPEN 102u
+
+/* The longest text that list and list_from take, in bytes. next and cut take any. */
+#define SQLLEX_LONGEST 65535u
+
+/* How many numbers a record of a list has: kind, start, length. Three for each byte of the text are always enough. */
+#define SQLLEX_RECORD_WIDTH 3u
+
+/* How many kinds there are; they are numbered from 0. docs/KINDS.md has the words and forms of each. */
+#define SQLLEX_KINDS_COUNT 176u
+
+#define SQLLEX_TK_NONE 0u
+#define SQLLEX_TK_LP 1u
+#define SQLLEX_TK_RP 2u
+#define SQLLEX_TK_SEMI 3u
+#define SQLLEX_TK_PLUS 4u
+#define SQLLEX_TK_STAR 5u
+#define SQLLEX_TK_REM 6u
+#define SQLLEX_TK_COMMA 7u
+#define SQLLEX_TK_BITNOT 8u
+#define SQLLEX_TK_LBRACKET 9u
+#define SQLLEX_TK_RBRACKET 10u
+#define SQLLEX_TK_MINUS 11u
+#define SQLLEX_TK_SLASH 12u
+#define SQLLEX_TK_LT 13u
+#define SQLLEX_TK_GT 14u
+#define SQLLEX_TK_BITOR 15u
+#define SQLLEX_TK_BITAND 16u
+#define SQLLEX_TK_DOT 17u
+#define SQLLEX_TK_COLON 18u
+#define SQLLEX_TK_EQ 19u
+#define SQLLEX_TK_PTR 20u
+#define SQLLEX_TK_LE 21u
+#define SQLLEX_TK_LSHIFT 22u
+#define SQLLEX_TK_NE 23u
+#define SQLLEX_TK_GE 24u
+#define SQLLEX_TK_RSHIFT 25u
+#define SQLLEX_TK_CONCAT 26u
+#define SQLLEX_TK_ARRAY_OVERLAP 27u
+#define SQLLEX_TK_ARRAY_CONTAINS 28u
+#define SQLLEX_TK_STRING 29u
+#define SQLLEX_TK_ID 30u
+#define SQLLEX_TK_INTEGER 31u
+#define SQLLEX_TK_FLOAT 32u
+#define SQLLEX_TK_BLOB 33u
+#define SQLLEX_TK_VARIABLE 34u
+#define SQLLEX_TK_ILLEGAL 35u
+#define SQLLEX_TK_ABORT 36u
+#define SQLLEX_TK_ACTION 37u
+#define SQLLEX_TK_ADD 38u
+#define SQLLEX_TK_AFTER 39u
+#define SQLLEX_TK_ALL 40u
+#define SQLLEX_TK_ALTER 41u
+#define SQLLEX_TK_ALWAYS 42u
+#define SQLLEX_TK_ANALYZE 43u
+#define SQLLEX_TK_AND 44u
+#define SQLLEX_TK_AS 45u
+#define SQLLEX_TK_ASC 46u
+#define SQLLEX_TK_ATTACH 47u
+#define SQLLEX_TK_AUTOINCR 48u
+#define SQLLEX_TK_BEFORE 49u
+#define SQLLEX_TK_BEGIN 50u
+#define SQLLEX_TK_BETWEEN 51u
+#define SQLLEX_TK_BY 52u
+#define SQLLEX_TK_CASCADE 53u
+#define SQLLEX_TK_CASE 54u
+#define SQLLEX_TK_CAST 55u
+#define SQLLEX_TK_CHECK 56u
+#define SQLLEX_TK_COLLATE 57u
+#define SQLLEX_TK_COLUMNKW 58u
+#define SQLLEX_TK_COMMIT 59u
+#define SQLLEX_TK_CONCURRENT 60u
+#define SQLLEX_TK_CONFLICT 61u
+#define SQLLEX_TK_CONSTRAINT 62u
+#define SQLLEX_TK_CREATE 63u
+#define SQLLEX_TK_JOIN_KW 64u
+#define SQLLEX_TK_CURRENT 65u
+#define SQLLEX_TK_CTIME_KW 66u
+#define SQLLEX_TK_DATABASE 67u
+#define SQLLEX_TK_DEFAULT 68u
+#define SQLLEX_TK_DEFERRABLE 69u
+#define SQLLEX_TK_DEFERRED 70u
+#define SQLLEX_TK_DELETE 71u
+#define SQLLEX_TK_DESC 72u
+#define SQLLEX_TK_DETACH 73u
+#define SQLLEX_TK_DISTINCT 74u
+#define SQLLEX_TK_DO 75u
+#define SQLLEX_TK_DROP 76u
+#define SQLLEX_TK_EACH 77u
+#define SQLLEX_TK_ELSE 78u
+#define SQLLEX_TK_END 79u
+#define SQLLEX_TK_ESCAPE 80u
+#define SQLLEX_TK_EXCEPT 81u
+#define SQLLEX_TK_EXCLUDE 82u
+#define SQLLEX_TK_EXCLUSIVE 83u
+#define SQLLEX_TK_EXISTS 84u
+#define SQLLEX_TK_EXPLAIN 85u
+#define SQLLEX_TK_FAIL 86u
+#define SQLLEX_TK_FILTER 87u
+#define SQLLEX_TK_FIRST 88u
+#define SQLLEX_TK_FOLLOWING 89u
+#define SQLLEX_TK_FOR 90u
+#define SQLLEX_TK_FOREIGN 91u
+#define SQLLEX_TK_FROM 92u
+#define SQLLEX_TK_GENERATED 93u
+#define SQLLEX_TK_LIKE_KW 94u
+#define SQLLEX_TK_GROUP 95u
+#define SQLLEX_TK_GROUPS 96u
+#define SQLLEX_TK_HAVING 97u
+#define SQLLEX_TK_IF 98u
+#define SQLLEX_TK_IGNORE 99u
+#define SQLLEX_TK_IMMEDIATE 100u
+#define SQLLEX_TK_IN 101u
+#define SQLLEX_TK_INDEX 102u
+#define SQLLEX_TK_INDEXED 103u
+#define SQLLEX_TK_INITIALLY 104u
+#define SQLLEX_TK_INSERT 105u
+#define SQLLEX_TK_INSTEAD 106u
+#define SQLLEX_TK_INTERSECT 107u
+#define SQLLEX_TK_INTO 108u
+#define SQLLEX_TK_IS 109u
+#define SQLLEX_TK_ISNULL 110u
+#define SQLLEX_TK_JOIN 111u
+#define SQLLEX_TK_KEY 112u
+#define SQLLEX_TK_LAST 113u
+#define SQLLEX_TK_LIMIT 114u
+#define SQLLEX_TK_MATCH 115u
+#define SQLLEX_TK_MATERIALIZED 116u
+#define SQLLEX_TK_NO 117u
+#define SQLLEX_TK_NOT 118u
+#define SQLLEX_TK_NOTHING 119u
+#define SQLLEX_TK_NOTNULL 120u
+#define SQLLEX_TK_NULL 121u
+#define SQLLEX_TK_NULLS 122u
+#define SQLLEX_TK_OF 123u
+#define SQLLEX_TK_OFFSET 124u
+#define SQLLEX_TK_ON 125u
+#define SQLLEX_TK_OR 126u
+#define SQLLEX_TK_ORDER 127u
+#define SQLLEX_TK_OPTIMIZE 128u
+#define SQLLEX_TK_OTHERS 129u
+#define SQLLEX_TK_OVER 130u
+#define SQLLEX_TK_PARTITION 131u
+#define SQLLEX_TK_PLAN 132u
+#define SQLLEX_TK_PRAGMA 133u
+#define SQLLEX_TK_PRECEDING 134u
+#define SQLLEX_TK_PRIMARY 135u
+#define SQLLEX_TK_QUERY 136u
+#define SQLLEX_TK_RAISE 137u
+#define SQLLEX_TK_RANGE 138u
+#define SQLLEX_TK_RECURSIVE 139u
+#define SQLLEX_TK_REFERENCES 140u
+#define SQLLEX_TK_REINDEX 141u
+#define SQLLEX_TK_RELEASE 142u
+#define SQLLEX_TK_RENAME 143u
+#define SQLLEX_TK_REPLACE 144u
+#define SQLLEX_TK_RETURNING 145u
+#define SQLLEX_TK_RESTRICT 146u
+#define SQLLEX_TK_ROLLBACK 147u
+#define SQLLEX_TK_ROW 148u
+#define SQLLEX_TK_ROWS 149u
+#define SQLLEX_TK_SAVEPOINT 150u
+#define SQLLEX_TK_SELECT 151u
+#define SQLLEX_TK_SET 152u
+#define SQLLEX_TK_TABLE 153u
+#define SQLLEX_TK_TEMP 154u
+#define SQLLEX_TK_THEN 155u
+#define SQLLEX_TK_TIES 156u
+#define SQLLEX_TK_TO 157u
+#define SQLLEX_TK_TRANSACTION 158u
+#define SQLLEX_TK_TRIGGER 159u
+#define SQLLEX_TK_TYPE 160u
+#define SQLLEX_TK_UNBOUNDED 161u
+#define SQLLEX_TK_UNION 162u
+#define SQLLEX_TK_UNIQUE 163u
+#define SQLLEX_TK_UPDATE 164u
+#define SQLLEX_TK_USING 165u
+#define SQLLEX_TK_VACUUM 166u
+#define SQLLEX_TK_VALUES 167u
+#define SQLLEX_TK_VIEW 168u
+#define SQLLEX_TK_VIRTUAL 169u
+#define SQLLEX_TK_WHEN 170u
+#define SQLLEX_TK_WHERE 171u
+#define SQLLEX_TK_WINDOW 172u
+#define SQLLEX_TK_WITH 173u
+#define SQLLEX_TK_WITHIN 174u
+#define SQLLEX_TK_WITHOUT 175u
+
+/*
+ * The kinds and the refusals once more, in the order of their numbers, for tables. X is a macro of yours that takes a kind as
+ * TK_NONE, or a refusal as UNRECOGNIZED_TOKEN, UnrecognizedToken: the constant without SQLLEX_, and the name that sqllex prints.
+ *
+ *     #define NAME(kind) #kind,
+ *     static const char *const kind_names[] = {SQLLEX_KINDS(NAME)};
+ */
+#define SQLLEX_KINDS(X) \
+    X(TK_NONE) X(TK_LP) X(TK_RP) X(TK_SEMI) X(TK_PLUS) X(TK_STAR) X(TK_REM) X(TK_COMMA) X(TK_BITNOT) X(TK_LBRACKET) \
+    X(TK_RBRACKET) X(TK_MINUS) X(TK_SLASH) X(TK_LT) X(TK_GT) X(TK_BITOR) X(TK_BITAND) X(TK_DOT) X(TK_COLON) X(TK_EQ) \
+    X(TK_PTR) X(TK_LE) X(TK_LSHIFT) X(TK_NE) X(TK_GE) X(TK_RSHIFT) X(TK_CONCAT) X(TK_ARRAY_OVERLAP) \
+    X(TK_ARRAY_CONTAINS) X(TK_STRING) X(TK_ID) X(TK_INTEGER) X(TK_FLOAT) X(TK_BLOB) X(TK_VARIABLE) X(TK_ILLEGAL) \
+    X(TK_ABORT) X(TK_ACTION) X(TK_ADD) X(TK_AFTER) X(TK_ALL) X(TK_ALTER) X(TK_ALWAYS) X(TK_ANALYZE) X(TK_AND) \
+    X(TK_AS) X(TK_ASC) X(TK_ATTACH) X(TK_AUTOINCR) X(TK_BEFORE) X(TK_BEGIN) X(TK_BETWEEN) X(TK_BY) X(TK_CASCADE) \
+    X(TK_CASE) X(TK_CAST) X(TK_CHECK) X(TK_COLLATE) X(TK_COLUMNKW) X(TK_COMMIT) X(TK_CONCURRENT) X(TK_CONFLICT) \
+    X(TK_CONSTRAINT) X(TK_CREATE) X(TK_JOIN_KW) X(TK_CURRENT) X(TK_CTIME_KW) X(TK_DATABASE) X(TK_DEFAULT) \
+    X(TK_DEFERRABLE) X(TK_DEFERRED) X(TK_DELETE) X(TK_DESC) X(TK_DETACH) X(TK_DISTINCT) X(TK_DO) X(TK_DROP) \
+    X(TK_EACH) X(TK_ELSE) X(TK_END) X(TK_ESCAPE) X(TK_EXCEPT) X(TK_EXCLUDE) X(TK_EXCLUSIVE) X(TK_EXISTS) \
+    X(TK_EXPLAIN) X(TK_FAIL) X(TK_FILTER) X(TK_FIRST) X(TK_FOLLOWING) X(TK_FOR) X(TK_FOREIGN) X(TK_FROM) \
+    X(TK_GENERATED) X(TK_LIKE_KW) X(TK_GROUP) X(TK_GROUPS) X(TK_HAVING) X(TK_IF) X(TK_IGNORE) X(TK_IMMEDIATE) \
+    X(TK_IN) X(TK_INDEX) X(TK_INDEXED) X(TK_INITIALLY) X(TK_INSERT) X(TK_INSTEAD) X(TK_INTERSECT) X(TK_INTO) \
+    X(TK_IS) X(TK_ISNULL) X(TK_JOIN) X(TK_KEY) X(TK_LAST) X(TK_LIMIT) X(TK_MATCH) X(TK_MATERIALIZED) X(TK_NO) \
+    X(TK_NOT) X(TK_NOTHING) X(TK_NOTNULL) X(TK_NULL) X(TK_NULLS) X(TK_OF) X(TK_OFFSET) X(TK_ON) X(TK_OR) X(TK_ORDER) \
+    X(TK_OPTIMIZE) X(TK_OTHERS) X(TK_OVER) X(TK_PARTITION) X(TK_PLAN) X(TK_PRAGMA) X(TK_PRECEDING) X(TK_PRIMARY) \
+    X(TK_QUERY) X(TK_RAISE) X(TK_RANGE) X(TK_RECURSIVE) X(TK_REFERENCES) X(TK_REINDEX) X(TK_RELEASE) X(TK_RENAME) \
+    X(TK_REPLACE) X(TK_RETURNING) X(TK_RESTRICT) X(TK_ROLLBACK) X(TK_ROW) X(TK_ROWS) X(TK_SAVEPOINT) X(TK_SELECT) \
+    X(TK_SET) X(TK_TABLE) X(TK_TEMP) X(TK_THEN) X(TK_TIES) X(TK_TO) X(TK_TRANSACTION) X(TK_TRIGGER) X(TK_TYPE) \
+    X(TK_UNBOUNDED) X(TK_UNION) X(TK_UNIQUE) X(TK_UPDATE) X(TK_USING) X(TK_VACUUM) X(TK_VALUES) X(TK_VIEW) \
+    X(TK_VIRTUAL) X(TK_WHEN) X(TK_WHERE) X(TK_WINDOW) X(TK_WITH) X(TK_WITHIN) X(TK_WITHOUT)
+#define SQLLEX_REFUSALS(X) \
+    X(UNRECOGNIZED_TOKEN, UnrecognizedToken) \
+    X(UNTERMINATED_LITERAL, UnterminatedLiteral) \
+    X(BAD_NUMBER, BadNumber) \
+    X(BAD_FRACTIONAL_PART, BadFractionalPart) \
+    X(BAD_EXPONENT_PART, BadExponentPart) \
+    X(MALFORMED_HEX_INTEGER, MalformedHexInteger) \
+    X(EXPECTED_EQUALS_SIGN, ExpectedEqualsSign) \
+    X(OFFSET_PAST_END, OffsetPastEnd) \
+    X(TOO_LONG, TooLong) \
+    X(LIST_FULL, ListFull)
+
+#ifdef __cplusplus
+extern "C" {
+#endif
+
+/*
+ * The lexeme at an offset of a text: a token, or a refusal. Blanks and comments are tokens of kind SQLLEX_TK_NONE.
+ *
+ *     status                   value  start        length       next
+ *     SQLLEX_TOKEN             kind   offset       its length   start + length
+ *     SQLLEX_END               0      text_length  0            text_length
+ *     1 to 7                   0      of the span  of the span  offset; or behind the span, see below
+ *     SQLLEX_OFFSET_PAST_END   0      0            0            offset
+ *
+ * A refusal's `next` is the offset given, so that to call there again is to be refused again; who would rather go on behind the
+ * refused bytes does so at start + length, which is greater than the offset. Only for bytes that begin no lexeme at all, one kind
+ * of SQLLEX_UNRECOGNIZED_TOKEN, is `next` start + length itself.
+ */
+uint32_t sqllex_next(const uint8_t *text, size_t text_length, size_t offset, sqllex_answer *answer);
+
+/*
+ * The tokens of a text from an offset on, each as a record in a list: kind, start, length. The list has whole records only, the
+ * first at list[0]; the numbers behind the last record stay as they were.
+ *
+ *     status                   value    start        length       next
+ *     SQLLEX_END               records  text_length  0            text_length
+ *     1 to 7                   records  of the span  of the span  as sqllex_next's there
+ *     SQLLEX_OFFSET_PAST_END   0        0            0            offset
+ *     SQLLEX_TOO_LONG          0        0            0            offset
+ *     SQLLEX_LIST_FULL         records  next         0            the token that has no place
+ *
+ * SQLLEX_TOO_LONG, for a text of more than SQLLEX_LONGEST bytes, comes before any other. SQLLEX_LIST_FULL comes only where there is
+ * a token and fewer than three numbers are left: call again from `next` with the list emptied.
+ */
+uint32_t sqllex_list_from(const uint8_t *text, size_t text_length, size_t offset, uint32_t *list, size_t list_length,
+                          sqllex_answer *answer);
+
+/*
+ * The tokens of a text from its beginning on, as sqllex_list_from writes them. Returns the number of records, and does not say
+ * whether they are all: fewer where a lexeme is refused or the list is full, 0 for a text that is too long.
+ */
+uint64_t sqllex_list(const uint8_t *text, size_t text_length, uint32_t *list, size_t list_length);
+
+/*
+ * The statement from an offset on, up to and with its semicolon; one inside a string, a quoted name or a comment does not count.
+ *
+ *     status                   value   start        length        next
+ *     SQLLEX_CUT               0 or 1  offset       to behind ;   start + length
+ *     SQLLEX_OPEN              1       offset       to the end    text_length
+ *     SQLLEX_END               0       text_length  0             text_length
+ *     1 to 7                   0       of the span  of the span   offset
+ *     SQLLEX_OFFSET_PAST_END   0       0            0             offset
+ *
+ * `value` is 1 where a token that is no SQLLEX_TK_NONE came before the semicolon, or before the end where there is no semicolon.
+ * SQLLEX_OPEN: such a token came, and no semicolon. SQLLEX_END: neither came. A refusal is that of the first lexeme which
+ * sqllex_next refuses before a semicolon.
+ */
+uint32_t sqllex_cut(const uint8_t *text, size_t text_length, size_t offset, sqllex_answer *answer);
+
+/* The kind of a word: its keyword's, ASCII letters in capitals or not; SQLLEX_TK_ID for any other bytes, and for none. */
+uint32_t sqllex_word_kind(const uint8_t *word, size_t word_length);
+
+/* Whether an identifier with these bytes has to be quoted: true for every keyword but TYPE. */
+bool sqllex_is_quotable_keyword(const uint8_t *word, size_t word_length);
+
+#ifdef __cplusplus
+}
+#endif
+
+#endif
