@@ -1,0 +1,464 @@
+/*
+ * calls.c: every call of include/sqllex.h, with each text, list and answer beside a page that no access survives. tests/library runs it.
+ *
+ * calls PLACE next|list N|cut|word  reads records as sqlbatch does, and prints what sqlbatch prints of them
+ * calls PLACE replay                prints what the program replay prints of them
+ * calls PLACE edges                 tries the calls that stand below with their answers
+ *
+ * PLACE, front or back, says where a text, list or answer lies in its room between two such pages: at its beginning or at its end.
+ * In every mode what a call must leave alone is seen to be as it was: the bytes beside the answer and the list, the list's numbers
+ * behind the records, and the text, which cannot be written.
+ */
+#define _DEFAULT_SOURCE
+#include <stdio.h>
+#include <stdlib.h>
+#include <string.h>
+#include <sys/mman.h>
+#include <unistd.h>
+
+#include "sqllex.h"
+
+#define TEXT_MOST 70000u
+#define LIST_MOST (SQLLEX_LONGEST * SQLLEX_RECORD_WIDTH + 4)
+#define BESIDE 64u    /* bytes beside a list or an answer that are looked at */
+#define OLD_BYTE 0xff /* what all these are before a call */
+#define OLD 4294967295
+
+#define KIND_NAME(kind) #kind,
+static const char *const kind_names[] = {SQLLEX_KINDS(KIND_NAME)};
+#define REFUSAL_NAME(constant, name) [SQLLEX_##constant] = #name,
+static const char *const refusal_names[] = {SQLLEX_REFUSALS(REFUSAL_NAME)};
+
+static void fail(const char *what)
+{
+    fflush(stdout);
+    fprintf(stderr, "calls: %s\n", what);
+    exit(1);
+}
+
+static void require(bool holds, const char *what)
+{
+    if (!holds)
+        fail(what);
+}
+
+/* Whole pages between two that cannot be touched. */
+struct room {
+    unsigned char *bytes;
+    size_t size;
+};
+static struct room text_room, list_room, answer_room;
+static bool at_back;
+
+static struct room make_room(size_t size)
+{
+    size_t page = (size_t)sysconf(_SC_PAGESIZE);
+    struct room room = {NULL, (size + page - 1) / page * page};
+    unsigned char *all = mmap(NULL, room.size + 2 * page, PROT_NONE, MAP_PRIVATE | MAP_ANONYMOUS, -1, 0);
+    require(all != MAP_FAILED, "no memory");
+    room.bytes = all + page;
+    require(mprotect(room.bytes, room.size, PROT_READ | PROT_WRITE) == 0, "no memory");
+    return room;
+}
+
+static unsigned char *place(struct room room, size_t size)
+{
+    return at_back ? room.bytes + (room.size - size) : room.bytes;
+}
+
+/* The text of the calls that follow. */
+static const uint8_t *text;
+static size_t text_length;
+
+static void set_text(const void *bytes, size_t length)
+{
+    unsigned char *there = place(text_room, length);
+    mprotect(text_room.bytes, text_room.size, PROT_READ | PROT_WRITE);
+    if (length > 0)
+        memcpy(there, bytes, length);
+    mprotect(text_room.bytes, text_room.size, PROT_READ);
+    text = there;
+    text_length = length;
+}
+
+/* What lies on the open side of a place in a room, before and after a call. */
+static unsigned char *beside(const void *there, size_t size)
+{
+    unsigned char *start = (unsigned char *)there;
+    return at_back ? start - BESIDE : start + size;
+}
+
+static void look_beside(const void *there, size_t size, const char *what)
+{
+    const unsigned char *byte = beside(there, size);
+    for (size_t i = 0; i < BESIDE; i++)
+        require(byte[i] == OLD_BYTE, what);
+}
+
+/* Of `size` bytes in a room; they and those beside them are set, so that it is seen which of them a call writes. */
+static void *unset(struct room room, size_t size)
+{
+    unsigned char *there = place(room, size);
+    memset(at_back ? there - BESIDE : there, OLD_BYTE, size + BESIDE);
+    return there;
+}
+
+static sqllex_answer *unset_answer(void)
+{
+    return unset(answer_room, sizeof(sqllex_answer));
+}
+
+static sqllex_answer written(const sqllex_answer *answer)
+{
+    look_beside(answer, sizeof *answer, "a byte beside the answer was written");
+    return *answer;
+}
+
+static uint32_t call_next(size_t offset, sqllex_answer *said)
+{
+    sqllex_answer *answer = unset_answer();
+    uint32_t status = sqllex_next(text, text_length, offset, answer);
+    *said = written(answer);
+    return status;
+}
+
+static uint32_t call_cut(size_t offset, sqllex_answer *said)
+{
+    sqllex_answer *answer = unset_answer();
+    uint32_t status = sqllex_cut(text, text_length, offset, answer);
+    *said = written(answer);
+    return status;
+}
+
+/* A list from offset 0 is asked of both calls, which must write the same. */
+static uint32_t call_list(size_t offset, size_t length, uint32_t **list, sqllex_answer *said)
+{
+    static const char beside_list[] = "a byte beside the list was written";
+    static uint32_t first[LIST_MOST];
+    size_t size = length * sizeof(uint32_t);
+    uint64_t records = 0;
+    if (offset == 0) {
+        *list = unset(list_room, size);
+        records = sqllex_list(text, text_length, *list, length);
+        look_beside(*list, size, beside_list);
+        memcpy(first, *list, size);
+    }
+    *list = unset(list_room, size);
+    sqllex_answer *answer = unset_answer();
+    uint32_t status = sqllex_list_from(text, text_length, offset, *list, length, answer);
+    *said = written(answer);
+    look_beside(*list, size, beside_list);
+    if (offset == 0) {
+        require(records == said->value, "sqllex_list and sqllex_list_from count otherwise");
+        require(memcmp(first, *list, size) == 0, "sqllex_list and sqllex_list_from write otherwise");
+    }
+    return status;
+}
+
+/* The name of a status, and what every answer with it has, beside what is printed. */
+static const char *refusal_name(uint32_t status, const sqllex_answer *answer)
+{
+    require(status >= 1 && status <= SQLLEX_LIST_FULL, "a status that is none");
+    if (status < SQLLEX_OFFSET_PAST_END)
+        require(answer->length <= text_length && answer->start <= text_length - answer->length, "a span outside the text");
+    return refusal_names[status];
+}
+
+static void print_refusal(uint32_t status, const sqllex_answer *answer)
+{
+    printf("%s\t%zu\t%zu\t%zu", refusal_name(status, answer), answer->start, answer->length, answer->next);
+}
+
+static void look_at_end(const sqllex_answer *answer)
+{
+    require(answer->start == answer->next && answer->next == text_length && answer->length == 0, "an end that is not the text's");
+}
+
+static size_t print_walk(size_t offset)
+{
+    sqllex_answer answer;
+    size_t tokens = 0;
+    uint32_t status;
+    while ((status = call_next(offset, &answer)) == SQLLEX_TOKEN) {
+        require(answer.value < SQLLEX_KINDS_COUNT, "a kind that is none");
+        require(answer.start == offset && answer.next == offset + answer.length, "a token that lies elsewhere");
+        printf("%s\t%zu\t%zu\n", kind_names[answer.value], answer.start, answer.length);
+        offset = answer.next;
+        tokens++;
+    }
+    require(answer.value == 0, "a value beside an end or a refusal");
+    if (status == SQLLEX_END) {
+        look_at_end(&answer);
+        printf("END\t%zu\t%zu\n\n", answer.next, tokens);
+        return tokens;
+    }
+    if (status < SQLLEX_OFFSET_PAST_END)
+        require(answer.start + answer.length > offset, "a refusal that ends before it begins");
+    print_refusal(status, &answer);
+    printf("\n\n");
+    return tokens;
+}
+
+static void print_list(size_t offset, size_t length)
+{
+    sqllex_answer answer;
+    uint32_t *list;
+    uint32_t status = call_list(offset, length, &list, &answer);
+    for (size_t i = 0; i < length; i++)
+        printf("%s%lu", i > 0 ? " " : "", (unsigned long)list[i]);
+    printf("\n");
+    if (status == SQLLEX_END) {
+        look_at_end(&answer);
+        printf("END\t%zu", answer.next);
+    } else {
+        print_refusal(status, &answer);
+    }
+    printf("\t%zu\n\n", answer.value);
+}
+
+static void print_cut(size_t offset)
+{
+    sqllex_answer answer;
+    uint32_t status = call_cut(offset, &answer);
+    if (status == SQLLEX_CUT) {
+        printf("CUT\t%zu\t%zu\t%zu\t%zu\n\n", answer.start, answer.length, answer.value, answer.next);
+        return;
+    }
+    require(answer.value == (status == SQLLEX_OPEN), "a value that a cut has not");
+    if (status == SQLLEX_END)
+        look_at_end(&answer);
+    if (status == SQLLEX_OPEN || status == SQLLEX_END)
+        printf("%s\t%zu\t%zu\t%zu", status == SQLLEX_OPEN ? "OPEN" : "END", answer.start, answer.length, answer.next);
+    else
+        print_refusal(status, &answer);
+    printf("\n\n");
+}
+
+static void print_replay(size_t offset)
+{
+    size_t tokens = print_walk(offset);
+    size_t enough = text_length > SQLLEX_LONGEST ? 0 : tokens * SQLLEX_RECORD_WIDTH;
+    for (size_t length = 0; length < 8; length++)
+        print_list(offset, length);
+    print_list(offset, enough > 0 ? enough - 1 : 0);
+    print_list(offset, enough);
+    print_list(offset, enough + 4);
+    print_cut(offset);
+}
+
+static void print_next(size_t offset)
+{
+    (void)print_walk(offset);
+}
+
+static size_t list_length;
+
+static void print_one_list(size_t offset)
+{
+    print_list(offset, list_length);
+}
+
+static void print_word(size_t offset)
+{
+    (void)offset;
+    printf("%s\t%d\n\n", kind_names[sqllex_word_kind(text, text_length)], sqllex_is_quotable_keyword(text, text_length));
+}
+
+/* Records: offset and length, 4 bytes each, lowest first, and the text. */
+static void each_record(void (*print)(size_t offset))
+{
+    static unsigned char bytes[TEXT_MOST];
+    unsigned char head[8];
+    while (fread(head, 1, sizeof head, stdin) == sizeof head) {
+        size_t number[2] = {0, 0};
+        for (int i = 7; i >= 0; i--)
+            number[i / 4] = number[i / 4] * 256 + head[i];
+        require(number[1] <= sizeof bytes && fread(bytes, 1, number[1], stdin) == number[1], "a bad record");
+        set_text(bytes, number[1]);
+        print(number[0]);
+    }
+}
+
+/* The calls of `edges`, each with its status, value, start, length and next. */
+static void expect(int line, uint32_t got, const sqllex_answer *said, uint32_t status, size_t value, size_t start, size_t length,
+                   size_t next)
+{
+    if (got == status && said->value == value && said->start == start && said->length == length && said->next == next)
+        return;
+    fprintf(stderr, "calls: line %d: the status is %u, the answer %zu %zu %zu %zu\n", line, (unsigned)got, said->value, said->start,
+            said->length, said->next);
+    exit(1);
+}
+
+static sqllex_answer said;
+static uint32_t *list;
+#define TEXT(literal) set_text(literal, sizeof literal - 1)
+#define NEXT(offset, ...) expect(__LINE__, call_next(offset, &said), &said, __VA_ARGS__)
+#define CUT(offset, ...) expect(__LINE__, call_cut(offset, &said), &said, __VA_ARGS__)
+#define LIST(offset, length, ...) expect(__LINE__, call_list(offset, length, &list, &said), &said, __VA_ARGS__)
+
+static void try_next(void)
+{
+    TEXT("");
+    NEXT(0, SQLLEX_END, 0, 0, 0, 0);
+    NEXT(1, SQLLEX_OFFSET_PAST_END, 0, 0, 0, 1);
+    TEXT("SELECT 1.e-1;\n");
+    NEXT(0, SQLLEX_TOKEN, SQLLEX_TK_SELECT, 0, 6, 6);
+    NEXT(7, SQLLEX_TOKEN, SQLLEX_TK_FLOAT, 7, 5, 12);
+    NEXT(8, SQLLEX_TOKEN, SQLLEX_TK_DOT, 8, 1, 9);
+    NEXT(14, SQLLEX_END, 0, 14, 0, 14);
+    NEXT(15, SQLLEX_OFFSET_PAST_END, 0, 0, 0, 15);
+    NEXT(SIZE_MAX, SQLLEX_OFFSET_PAST_END, 0, 0, 0, SIZE_MAX);
+    TEXT("a\vb c");
+    NEXT(1, SQLLEX_UNRECOGNIZED_TOKEN, 0, 1, 2, 3);
+    TEXT("a x'1'");
+    NEXT(2, SQLLEX_UNRECOGNIZED_TOKEN, 0, 2, 4, 2);
+    TEXT("a '''");
+    NEXT(2, SQLLEX_UNTERMINATED_LITERAL, 0, 2, 3, 2);
+    TEXT("a 12_x");
+    NEXT(2, SQLLEX_BAD_NUMBER, 0, 3, 2, 2);
+    TEXT("a 1.5a");
+    NEXT(2, SQLLEX_BAD_FRACTIONAL_PART, 0, 3, 2, 2);
+    TEXT("a 1e+");
+    NEXT(2, SQLLEX_BAD_EXPONENT_PART, 0, 3, 2, 2);
+    TEXT("a 0x");
+    NEXT(2, SQLLEX_MALFORMED_HEX_INTEGER, 0, 2, 2, 2);
+    TEXT("a !");
+    NEXT(2, SQLLEX_EXPECTED_EQUALS_SIGN, 0, 2, 1, 2);
+}
+
+static void try_list(void)
+{
+    static const uint32_t records[] = {SQLLEX_TK_ID, 0, 1, SQLLEX_TK_SEMI, 1, 1, SQLLEX_TK_ID, 2, 1};
+    TEXT("a;b");
+    for (size_t length = 0; length < 12; length++) {
+        size_t whole = length < 9 ? length / 3 : 3;
+        if (whole < 3)
+            LIST(0, length, SQLLEX_LIST_FULL, whole, whole, 0, whole);
+        else
+            LIST(0, length, SQLLEX_END, 3, 3, 0, 3);
+        for (size_t i = 0; i < length; i++)
+            require(list[i] == (i < 3 * whole ? records[i] : OLD), "another list of a;b");
+    }
+    LIST(1, 3, SQLLEX_LIST_FULL, 1, 2, 0, 2);
+    LIST(3, 0, SQLLEX_END, 0, 3, 0, 3);
+    LIST(4, 9, SQLLEX_OFFSET_PAST_END, 0, 0, 0, 4);
+    TEXT("a;!");
+    LIST(0, 6, SQLLEX_EXPECTED_EQUALS_SIGN, 2, 2, 1, 2);
+    LIST(0, 5, SQLLEX_LIST_FULL, 1, 1, 0, 1);
+    TEXT("a\vb c");
+    LIST(0, 3, SQLLEX_UNRECOGNIZED_TOKEN, 1, 1, 2, 3);
+}
+
+static void try_cut(void)
+{
+    TEXT("a;b");
+    CUT(0, SQLLEX_CUT, 1, 0, 2, 2);
+    CUT(1, SQLLEX_CUT, 0, 1, 1, 2);
+    CUT(2, SQLLEX_OPEN, 1, 2, 1, 3);
+    CUT(3, SQLLEX_END, 0, 3, 0, 3);
+    CUT(4, SQLLEX_OFFSET_PAST_END, 0, 0, 0, 4);
+    TEXT("';'");
+    CUT(0, SQLLEX_OPEN, 1, 0, 3, 3);
+    TEXT(" /*;*/ ");
+    CUT(0, SQLLEX_END, 0, 7, 0, 7);
+    TEXT(" -- a\n;");
+    CUT(0, SQLLEX_CUT, 0, 0, 7, 7);
+    TEXT("a b 1.5a;");
+    CUT(1, SQLLEX_BAD_FRACTIONAL_PART, 0, 5, 2, 1);
+    TEXT("a \vb ;");
+    CUT(1, SQLLEX_UNRECOGNIZED_TOKEN, 0, 2, 2, 1);
+}
+
+/* Texts as long as a list takes, and longer. */
+static void try_long(void)
+{
+    static unsigned char bytes[TEXT_MOST];
+    memset(bytes, ';', sizeof bytes);
+    set_text(bytes, SQLLEX_LONGEST);
+    LIST(0, SQLLEX_LONGEST * 3, SQLLEX_END, SQLLEX_LONGEST, SQLLEX_LONGEST, 0, SQLLEX_LONGEST);
+    LIST(0, SQLLEX_LONGEST * 3 - 1, SQLLEX_LIST_FULL, SQLLEX_LONGEST - 1, SQLLEX_LONGEST - 1, 0, SQLLEX_LONGEST - 1);
+    set_text(bytes, SQLLEX_LONGEST + 1);
+    LIST(0, 9, SQLLEX_TOO_LONG, 0, 0, 0, 0);
+    require(list[0] == OLD, "a list of a text that is too long was written");
+    LIST(7, 0, SQLLEX_TOO_LONG, 0, 0, 0, 7);
+    LIST(SIZE_MAX, 9, SQLLEX_TOO_LONG, 0, 0, 0, SIZE_MAX);
+    memset(bytes, ' ', sizeof bytes);
+    set_text(bytes, sizeof bytes);
+    NEXT(0, SQLLEX_TOKEN, SQLLEX_TK_NONE, 0, TEXT_MOST, TEXT_MOST);
+    NEXT(TEXT_MOST, SQLLEX_END, 0, TEXT_MOST, 0, TEXT_MOST);
+    CUT(65536, SQLLEX_END, 0, TEXT_MOST, 0, TEXT_MOST);
+}
+
+static void try_word(const char *word, uint32_t kind, bool quotable)
+{
+    set_text(word, strlen(word));
+    require(sqllex_word_kind(text, text_length) == kind, word);
+    require(sqllex_is_quotable_keyword(text, text_length) == quotable, word);
+}
+
+static void try_words(void)
+{
+    try_word("", SQLLEX_TK_ID, false);
+    try_word("Select", SQLLEX_TK_SELECT, true);
+    try_word("type", SQLLEX_TK_TYPE, false);
+    try_word("types", SQLLEX_TK_ID, false);
+    try_word("CURRENT_TIMESTAMP", SQLLEX_TK_CTIME_KW, true);
+    try_word("CURRENT_TIMESTAMPS", SQLLEX_TK_ID, false);
+}
+
+/* No text and no list, by null pointers. */
+static void try_null(void)
+{
+    text = NULL;
+    text_length = 0;
+    NEXT(0, SQLLEX_END, 0, 0, 0, 0);
+    NEXT(1, SQLLEX_OFFSET_PAST_END, 0, 0, 0, 1);
+    CUT(0, SQLLEX_END, 0, 0, 0, 0);
+    sqllex_answer *answer = unset_answer();
+    require(sqllex_list_from(NULL, 0, 0, NULL, 0, answer) == SQLLEX_END && written(answer).value == 0, "a list of nothing");
+    require(sqllex_list(NULL, 0, NULL, 0) == 0, "records of nothing");
+    TEXT("a");
+    require(sqllex_list_from(text, text_length, 0, NULL, 0, answer) == SQLLEX_LIST_FULL, "a record in no list");
+    require(sqllex_list(text, text_length, NULL, 0) == 0, "a record in no list");
+    require(sqllex_word_kind(NULL, 0) == SQLLEX_TK_ID && !sqllex_is_quotable_keyword(NULL, 0), "a kind of no word");
+}
+
+static void try_edges(void)
+{
+    try_next();
+    try_list();
+    try_cut();
+    try_long();
+    try_words();
+    try_null();
+}
+
+int main(int argc, char **argv)
+{
+    static const char usage[] = "calls front|back next|list N|cut|word|replay|edges";
+    require(argc == 3 || argc == 4, usage);
+    at_back = strcmp(argv[1], "back") == 0;
+    require(at_back || strcmp(argv[1], "front") == 0, usage);
+    text_room = make_room(TEXT_MOST);
+    list_room = make_room(LIST_MOST * sizeof(uint32_t) + BESIDE);
+    answer_room = make_room(sizeof(sqllex_answer));
+    const char *mode = argv[2];
+    list_length = argc == 4 ? (size_t)atol(argv[3]) : 0;
+    require(list_length <= LIST_MOST, usage);
+    if (strcmp(mode, "next") == 0)
+        each_record(print_next);
+    else if (strcmp(mode, "list") == 0)
+        each_record(print_one_list);
+    else if (strcmp(mode, "cut") == 0)
+        each_record(print_cut);
+    else if (strcmp(mode, "word") == 0)
+        each_record(print_word);
+    else if (strcmp(mode, "replay") == 0)
+        each_record(print_replay);
+    else if (strcmp(mode, "edges") == 0)
+        try_edges();
+    else
+        fail(usage);
+    return 0;
+}
