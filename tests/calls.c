@@ -1,5 +1,5 @@
 /*
- * calls.c: every call of include/sqllex.h, with each text, list and answer beside a page that no access survives. tests/library runs it.
+ * calls.c: every call of include/sqllex.h, with each text, list and answer beside a page that cannot be touched. tests/library runs it.
  *
  * calls PLACE next|list N|cut|word  reads records as sqlbatch does, and prints what sqlbatch prints of them
  * calls PLACE replay                prints what the program replay prints of them
