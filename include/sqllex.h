@@ -1,9 +1,9 @@
 /*
- * sqllex.h: a SQL lexer for C, C++ and, by the same names, Rust.
+ * sqllex.h: a SQL lexer for C and C++. examples/tokens.c uses it; examples/tokens.rs has the same calls in Rust.
  *
  * Declares the calls of target/staticlib/libcapi.a, which `rt staticlib capi` proves and builds from crates/capi. The archive is
- * code for x86-64 Linux, needs no other library, and follows that system's calling convention (SSE registers and the red zone
- * included). tests/header fails where this file and the code part ways.
+ * code for x86-64 Linux, needs no other library, and follows that system's calling convention, SSE registers and the red zone
+ * included. tests/header fails where this file and the code part ways.
  *
  * What every call does. It returns, whatever the bytes; a text may hold any bytes, zeros too, and needs no zero behind it. It reads
  * the text alone, and writes only the list's first numbers and the answer, as said below. It uses no heap, no variable of its own
@@ -296,12 +296,12 @@ extern "C" {
  *     status                   value  start        length       next
  *     SQLLEX_TOKEN             kind   offset       its length   start + length
  *     SQLLEX_END               0      text_length  0            text_length
- *     1 to 7                   0      of the span  of the span  offset; or behind the span, see below
+ *     1 to 7                   0      of the span  of the span  offset, or start + length
  *     SQLLEX_OFFSET_PAST_END   0      0            0            offset
  *
- * A refusal's `next` is the offset given, so that to call there again is to be refused again; who would rather go on behind the
- * refused bytes does so at start + length, which is greater than the offset. Only for bytes that begin no lexeme at all, one kind
- * of SQLLEX_UNRECOGNIZED_TOKEN, is `next` start + length itself.
+ * After a refusal `next` is the offset given, so that a call there refuses again; to go on behind the refused bytes, call at
+ * start + length, which is greater than the offset. Only where the first byte begins no lexeme at all, as `{` does, is `next`
+ * itself start + length; the status is then SQLLEX_UNRECOGNIZED_TOKEN.
  */
 uint32_t sqllex_next(const uint8_t *text, size_t text_length, size_t offset, sqllex_answer *answer);
 
@@ -314,10 +314,11 @@ uint32_t sqllex_next(const uint8_t *text, size_t text_length, size_t offset, sql
  *     1 to 7                   records  of the span  of the span  as sqllex_next's there
  *     SQLLEX_OFFSET_PAST_END   0        0            0            offset
  *     SQLLEX_TOO_LONG          0        0            0            offset
- *     SQLLEX_LIST_FULL         records  next         0            the token that has no place
+ *     SQLLEX_LIST_FULL         records  next         0            of the token that has no place
  *
- * SQLLEX_TOO_LONG, for a text of more than SQLLEX_LONGEST bytes, comes before any other. SQLLEX_LIST_FULL comes only where there is
- * a token and fewer than three numbers are left: call again from `next` with the list emptied.
+ * SQLLEX_TOO_LONG, for a text of more than SQLLEX_LONGEST bytes, comes before any other. SQLLEX_LIST_FULL comes only where a token
+ * is left and fewer than three numbers are: take the records out, and call again from `next` with the same list. (One of fewer
+ * than three numbers is always full.)
  */
 uint32_t sqllex_list_from(const uint8_t *text, size_t text_length, size_t offset, uint32_t *list, size_t list_length,
                           sqllex_answer *answer);
