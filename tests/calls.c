@@ -182,6 +182,7 @@ static size_t print_walk(size_t offset)
     while ((status = call_next(offset, &answer)) == SQLLEX_TOKEN) {
         require(answer.value < SQLLEX_KINDS_COUNT, "a kind that is none");
         require(answer.start == offset && answer.next == offset + answer.length, "a token that lies elsewhere");
+        require(answer.length > 0, "a token of no byte");
         printf("%s\t%zu\t%zu\n", kind_names[answer.value], answer.start, answer.length);
         offset = answer.next;
         tokens++;
