@@ -36,7 +36,7 @@ ofList r = ofAnswer (recordsIn r) (answerOf r)
 
 -- of the cut 1 if a token that is not TK_NONE was met, else or where it is refused 0; a cut has status 101, Open 102
 abbrev pub ofCutAnswer : CutAnswer → Numbers
-ofCutAnswer (cut start n tokens offset) = five 101 (cond tokens 1 0) start n offset
+ofCutAnswer (cut start n any offset) = five 101 (cond any 1 0) start n offset
 ofCutAnswer (opened start n offset) = five 102 1 start n offset
 ofCutAnswer (ended start n offset) = five 0 0 start n offset
 ofCutAnswer (refused number start n offset) = five number 0 start n offset

@@ -109,9 +109,9 @@ pub(crate) fn of_cut(answer: Statement) -> Numbers
         Statement::Cut {
             start,
             length,
-            tokens,
+            any,
             next,
-        } => five(CUT, tokens as usize, start, length, next),
+        } => five(CUT, any as usize, start, length, next),
         Statement::Open {
             start,
             length,

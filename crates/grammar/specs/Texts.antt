@@ -10,7 +10,7 @@ use Rattle.grammar.specs.Classes.{noExponent, noHexdigit, hexUnderscore,
 use Rattle.grammar.specs.Answers.{Answer, token, end, refusal}
 use Rattle.grammar.specs.Longest.{Gives}
 
--- where Next goes on after an answer
+-- the offset that an answer leaves
 abbrev pub offset : Answer → ℕ
 offset (token k start n next) = next
 offset (end at) = at

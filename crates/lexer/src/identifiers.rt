@@ -46,7 +46,7 @@ pub(crate) fn eat_illegal(text: &[u8], start: Cursor) -> Lexed
     token(TK_ILLEGAL, start, start.eat(text).eat_while_continue(text))
 }
 
-// The only refusal behind which lexing goes on.
+// The only refusal that leaves the cursor behind the lexeme.
 pub(crate) fn eat_unrecognized(text: &[u8], start: Cursor) -> Lexed
     requires { ⌜ At U (start .at) (now text) ⌝ }
     ensures { λ r. ⌜ Lexes (now (text .entry)) (start .at) r ⌝ }

@@ -15,7 +15,8 @@ pub enum Refusal {
     OffsetPastEnd,
 }
 
-// `next` is where lexing goes on.
+// `next`: behind a token; at a refused lexeme's start, where the same refusal comes again, but behind it after class U; past the end as
+// given.
 pub enum Lexed {
     Token {
         kind: u32,

@@ -42,6 +42,7 @@ ghost use Rattle.grammar.specs.Classes.{U};
 ghost use Rattle.grammar.proofs.Places.{At};
 ghost use Rattle.lexer.specs.Values.{Lexes};
 
+// Past the end a refusal, at the end End, else what the longest lexeme here answers.
 pub fn next(text: &[u8], cursor: Cursor) -> Lexed
     ensures { λ r. ⌜ Lexes (now (text .entry)) (cursor .at) r ⌝ }
 {

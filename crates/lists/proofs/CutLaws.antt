@@ -45,22 +45,22 @@ has-one-more (u ∷ l) t =
     or-swap false true c = refl
     or-swap false false c = refl
 
--- no semicolon came, and `tokens` says whether a token did
-pub record Uncut (s : List ℕ) (from at : ℕ) (tokens : Bool) : Type 0 where
+-- no semicolon came, and `any` says whether a token did
+pub record Uncut (s : List ℕ) (from at : ℕ) (any : Bool) : Type 0 where
   pub passed : List Legal
   pub passes : Passes NoSemi s [] from passed at
-  pub has : tokens ≡ someNotNone passed
+  pub has : any ≡ someNotNone passed
 
 pub begins : (s : List ℕ) (from : ℕ) → Uncut s from from false
 unfolding Passes someNotNone
 begins s from = record { passed = []; passes = refl; has = refl }
 
-module _ {s : List ℕ} {from at : ℕ} {tokens : Bool} (v : Uncut s from at tokens) where
+module _ {s : List ℕ} {from at : ℕ} {any : Bool} (v : Uncut s from at any) where
   pub ahead : from ≤ at
   ahead = passes-ahead NoSemi s [] from (v .passed) at (v .passes)
 
   pub onward : (k start m : ℕ) (next : Cursor) → Lexes s at (Token k start m next) → (k ≡ kind "TK_SEMI" → ⊥)
-      → (more : Bool) → more ≡ notNone k || tokens → Uncut s from (next .at) more
+      → (more : Bool) → more ≡ notNone k || any → Uncut s from (next .at) more
   unfolding Lexes
   onward k start m next h other more e =
       let t = legal k start m in
@@ -72,7 +72,7 @@ module _ {s : List ℕ} {from at : ℕ} {tokens : Bool} (v : Uncut s from at tok
 
   -- the walk ends here
   cutting : (there : Answer) → Gives rules s at there → ((t : Legal) → there ≡ tokenOf t → NoSemi (v .passed) t → ⊥)
-      → Cutting s from (cutAnswer from tokens there)
+      → Cutting s from (cutAnswer from any there)
   cutting there g stuck =
       record {
         walk = record { passed = v .passed; to = at; passes = v .passes; there = there; gives = g; stops = stuck };
@@ -80,7 +80,7 @@ module _ {s : List ℕ} {from at : ℕ} {tokens : Bool} (v : Uncut s from at tok
       }
 
   pub semi-cuts : (k start m : ℕ) (next : Cursor) → Lexes s at (Token k start m next) → k ≡ kind "TK_SEMI"
-      → Cuts s from (Cut from (next .at - from) tokens next)
+      → Cuts s from (Cut from (next .at - from) any next)
   unfolding Lexes Cuts
   semi-cuts k start m next g e =
       cutting (token k start m (next .at)) g (λ t p other. let same : t .kind ≡ k = cc in other (same ∙ e))
@@ -92,11 +92,11 @@ module _ {s : List ℕ} {from at : ℕ} {tokens : Bool} (v : Uncut s from at tok
       subst (λ (a : ℕ). Cutting s from (CutAnswer.refused (numberOf why) start m a)) e
       (cutting (refusal (numberOf why) start m (next .at)) g (λ t p other. refusal-no-token (numberOf why) start m (next .at) t p))
 
-  pub end-cuts : (r : Statement) → at ≡ length s → Gives rules s at (end at) → valuesOf r ≡ cutAnswer from tokens (end (length s))
+  pub end-cuts : (r : Statement) → at ≡ length s → Gives rules s at (end at) → valuesOf r ≡ cutAnswer from any (end (length s))
       → Cuts s from r
   unfolding Cuts
   end-cuts r l g e =
-      subst (Cutting s from) (ap (λ (a : ℕ). cutAnswer from tokens (end a)) l ∙ sym e)
+      subst (Cutting s from) (ap (λ (a : ℕ). cutAnswer from any (end a)) l ∙ sym e)
       (cutting (end at) g (λ t p other. end-no-token at t p))
 
 -- which of `next`'s answers this is: 0 a token, 1 End, 2 a refusal

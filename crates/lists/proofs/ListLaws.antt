@@ -16,7 +16,7 @@ use Rattle.lexer.specs.declared.lexed.Lexed.the-variants.{Token, End as Over, R
 use Rattle.lexer.specs.Values.{Lexes, valuesOf, numberOf}
 use Rattle.lists.specs.declared.list.Listed.the-variants.{End, Refused, TooLong, ListFull}
 use Rattle.lists.specs.Walk.{Legal, tokenOf, Passes}
-use Rattle.lists.specs.Lists.{recordOf, recordsOf, HasRoom, listAnswer, longest, Listing, Lists, put}
+use Rattle.lists.specs.Lists.{recordOf, recordsOf, HasRoom, listAnswer, longestText, Listing, Lists, put}
 use Rattle.lists.proofs.WalkLaws.{legal, token-passes, end-no-token, refusal-no-token}
 
 records-append : (l m : List Legal) → recordsOf (l ++ m) ≡ recordsOf l ++ recordsOf m
@@ -97,7 +97,7 @@ module _ {s : List ℕ} {from : ℕ} {old out : List ℕ} {at n i : ℕ} (v : In
         written = v .holds ∙ ap (λ (m : ℕ). recordsOf (v .passed) ++ drop m old) (v .filled);
       }
 
-  module _ (short : length s ≤ longest) where
+  module _ (short : length s ≤ longestText) where
     pub end-lists : (next : Cursor) → Lexes s at (Over next) → Lists s from old (End n next) out
     unfolding Lexes Lists
     end-lists next g = inr (short, listing (end (next .at)) g (λ t e o. end-no-token (next .at) t e))
@@ -119,7 +119,7 @@ module _ {s : List ℕ} {from : ℕ} {old out : List ℕ} {at n i : ℕ} (v : In
         inr (short, subst (λ (a : ℕ). Listing s from old (listAnswer a there) n out) e (listing there g (λ t p o. omega arith)))
 
 -- a text that is too long
-pub too-long-lists : (s : List ℕ) (from : ℕ) (old : List ℕ) (next : Cursor) → from ≡ next .at → longest < length s
+pub too-long-lists : (s : List ℕ) (from : ℕ) (old : List ℕ) (next : Cursor) → from ≡ next .at → longestText < length s
     → Lists s from old (TooLong next) old
 unfolding Lists
 too-long-lists s from old next e h = inl (h, rw e refl, refl, refl)

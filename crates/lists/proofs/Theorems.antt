@@ -1,5 +1,5 @@
--- For readers. `gapless-run-of-longest-in-one-class`: demand 3 of List. `list-unique`, `cut-unique`: two answers that meet a contract, and two lists,
--- are equal. `reaches-the-end`: where List is not refused, its lexemes lead to the text's length. `too-long`, `past-end`: the refusals
+-- For readers. `gapless-run-of-longest-in-one-class`: List's lexemes follow one another, each the longest and in one class. `list-unique`,
+-- `cut-unique`: two answers that meet a contract, and two lists, are equal. `reaches-the-end`: where List is not refused, its lexemes lead to the text's length. `too-long`, `past-end`: the refusals
 -- that come first. `one-run`: every text, of any length, has one run of lexemes from every offset. The tables of texts: TextLaws.antt.
 -- Assumes nothing.
 use Prim.Native.Nat.{ℕ, _+_, _-_, _≤_, _<_}
@@ -28,14 +28,14 @@ use Rattle.lists.specs.declared.list.Listed.the-variants.{End, Refused, 
 use Rattle.lists.specs.declared.cut.Statement.{Statement}
 use Rattle.lists.specs.declared.cut.Statement.the-variants.{Cut, Open, End as Over, Refused as Bad}
 use Rattle.lists.specs.Walk.{Legal, tokenOf, Always, Passes, Walk}
-use Rattle.lists.specs.Lists.{recordsOf, HasRoom, listAnswer, longest, Listing, answerOf, recordsIn, Lists}
+use Rattle.lists.specs.Lists.{recordsOf, HasRoom, listAnswer, longestText, Listing, answerOf, recordsIn, Lists}
 use Rattle.lists.specs.Cuts.{CutAnswer, cut, opened, ended, refused, NoSemi, someNotNone, cutAnswer, valuesOf, Cuts}
 use Rattle.lists.specs.Gapless.{InOneClass, Follow, Ends, Gapless}
 use Rattle.lists.proofs.WalkLaws.{legal, is-legal, refusal-no-token, known, passes-ahead, walk-one, run}
 use Rattle.lists.proofs.GaplessLaws.{passes-follow, passes-each, gapless}
 
--- Demand 3.
-pub gapless-run-of-longest-in-one-class : (s : List ℕ) (from : ℕ) (old : List ℕ) (r : Listed) (new : List ℕ) → length s ≤ longest
+-- What List's lexemes are.
+pub gapless-run-of-longest-in-one-class : (s : List ℕ) (from : ℕ) (old : List ℕ) (r : Listed) (new : List ℕ) → length s ≤ longestText
     → Lists s from old r new → Gapless s from old (answerOf r) (recordsIn r) new
 unfolding Lists
 gapless-run-of-longest-in-one-class s from old r new h (inl (l, x, y, z)) = absurd (omega arith)
@@ -95,13 +95,13 @@ list-unique s from old r q new new′ (inr (h, x)) (inr (k, y)) =
 
 -- An answer of the cut can be read back from its values.
 abbrev statementOf : CutAnswer → Statement
-statementOf (cut start n tokens offset) = Cut start n tokens (cursor offset)
+statementOf (cut start n any offset) = Cut start n any (cursor offset)
 statementOf (opened start n offset) = Open start n (cursor offset)
 statementOf (ended start n offset) = Over (cursor offset)
 statementOf (refused number start n offset) = Bad (refusalOf number) start n (cursor offset)
 
 statement-back : (r : Statement) → statementOf (valuesOf r) ≡ r
-statement-back (Cut start n tokens next) = refl
+statement-back (Cut start n any next) = refl
 statement-back (Open start n next) = refl
 statement-back (Over next) = refl
 statement-back (Bad why start n next) = ap (λ (w : Refusal). Bad w start n next) (refusal-back why)
@@ -116,13 +116,13 @@ cut-unique s from r q x y =
     sym (statement-back r) ∙ ap statementOf (x .answers ∙ a ∙ b ∙ sym (y .answers)) ∙ statement-back q
 
 -- A text that is too long is refused first; the list stays as it was.
-pub too-long : (s : List ℕ) (from : ℕ) (old : List ℕ) (r : Listed) (new : List ℕ) → longest < length s → Lists s from old r new
+pub too-long : (s : List ℕ) (from : ℕ) (old : List ℕ) (r : Listed) (new : List ℕ) → longestText < length s → Lists s from old r new
     → (r ≡ TooLong (cursor from)) × (new ≡ old)
 unfolding Lists
 too-long s from old r new h x = list-unique s from old r (TooLong (cursor from)) new old x (inl (h, refl, refl, refl))
 
 -- Then an offset past the end; the list stays as it was.
-pub past-end : (s : List ℕ) (from : ℕ) (old : List ℕ) (r : Listed) (new : List ℕ) → length s ≤ longest → length s < from
+pub past-end : (s : List ℕ) (from : ℕ) (old : List ℕ) (r : Listed) (new : List ℕ) → length s ≤ longestText → length s < from
     → Lists s from old r new → (r ≡ Refused OffsetPastEnd 0 0 0 (cursor from)) × (new ≡ old)
 unfolding Lists Passes recordsOf
 past-end s from old r new short h x =
@@ -164,17 +164,17 @@ abbrev pub ToSemi : List ℕ → ℕ → ℕ → ℕ → Type 0
 ToSemi s from start n =
     (start ≡ from) × (t : Legal) × Gives rules s (t .start) (tokenOf t) × (t .kind ≡ kind "TK_SEMI") × (start + n ≡ t .start + t .length)
 
-pub cut-ends-with-semi : (s : List ℕ) (from start n : ℕ) (tokens : Bool) (next : Cursor) → Cuts s from (Cut start n tokens next)
+pub cut-ends-with-semi : (s : List ℕ) (from start n : ℕ) (any : Bool) (next : Cursor) → Cuts s from (Cut start n any next)
     → ToSemi s from start n
 unfolding Cuts
-cut-ends-with-semi s from start n tokens next x = by-answer (x .walk .there) (x .walk .gives) (x .walk .stops) (x .answers)
+cut-ends-with-semi s from start n any next x = by-answer (x .walk .there) (x .walk .gives) (x .walk .stops) (x .answers)
   where
-    not-at-end : (b : Bool) (offset : ℕ) → cut start n tokens (next .at) ≡ cutAnswer from b (end offset) → ⊥
+    not-at-end : (b : Bool) (offset : ℕ) → cut start n any (next .at) ≡ cutAnswer from b (end offset) → ⊥
     not-at-end true offset e = let z : _≡_ {A = ℕ} 0 1 = cc in omega arith
     not-at-end false offset e = let z : _≡_ {A = ℕ} 0 1 = cc in omega arith
 
     by-answer : (a : Answer) → Gives rules s (x .walk .to) a → ((t : Legal) → a ≡ tokenOf t → NoSemi (x .walk .passed) t → ⊥)
-        → cut start n tokens (next .at) ≡ cutAnswer from (someNotNone (x .walk .passed)) a
+        → cut start n any (next .at) ≡ cutAnswer from (someNotNone (x .walk .passed)) a
         → ToSemi s from start n
     by-answer (token k begin m behind) g stuck e =
         let o = told s (x .walk .to) k begin m behind g in

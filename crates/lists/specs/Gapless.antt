@@ -1,4 +1,4 @@
--- Demand 3 of List, in its own words: from any offset the lexemes follow one another without gap or overlap up to the first refusal or the
+-- What List's lexemes are: from any offset they follow one another without gap or overlap up to the first refusal or the
 -- end; each is the longest opening of the remaining text that stands in any class, legal or malformed; it stands in exactly one, and that
 -- class gives the answer. Assumes nothing.
 use Prim.Native.Nat.{ℕ, _+_, _<_}

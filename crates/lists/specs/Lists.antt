@@ -49,14 +49,14 @@ recordsIn (TooLong next) = 0
 recordsIn (ListFull records next) = records
 
 -- the longest text
-abbrev pub longest : ℕ
-longest = 65535
+abbrev pub longestText : ℕ
+longestText = 65535
 
 -- the answer r, and the list afterwards: a text that is too long is refused first
 unfoldable pub Lists : List ℕ → ℕ → List ℕ → Listed → List ℕ → Type 0
 Lists s from old r new =
-    ((longest < length s) × (answerOf r ≡ refusal (refusalNumber "TooLong") 0 0 from) × (recordsIn r ≡ 0) × (new ≡ old)) ⊎
-    ((length s ≤ longest) × Listing s from old (answerOf r) (recordsIn r) new)
+    ((longestText < length s) × (answerOf r ≡ refusal (refusalNumber "TooLong") 0 0 from) × (recordsIn r ≡ 0) × (new ≡ old)) ⊎
+    ((length s ≤ longestText) × Listing s from old (answerOf r) (recordsIn r) new)
 
 -- for a private function: three numbers at a place of a list
 abbrev pub put : List ℕ → ℕ → ℕ → ℕ → ℕ → List ℕ

@@ -9,7 +9,7 @@ ghost use lib.ListN.{length};
 ghost use Rattle.lists.specs.Lists.{Lists, put};
 
 // The longest text that `list` takes.
-pub const LONGEST: usize = 65535;
+pub const LONGEST_TEXT: usize = 65535;
 
 // How many numbers a record has.
 pub const WIDTH: usize = 3;
@@ -41,7 +41,7 @@ pub enum Listed {
 pub fn list(text: &[u8], cursor: Cursor, numbers: &mut [u32]) -> Listed
     ensures { λ r. ⌜ Lists (now (text .entry)) (cursor .at) (now (numbers .entry)) r (now (numbers .exit)) ⌝ }
 {
-    if LONGEST < text.len() {
+    if LONGEST_TEXT < text.len() {
         return Listed::TooLong { next: cursor };
     }
     let mut at = cursor;

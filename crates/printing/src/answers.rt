@@ -7,11 +7,11 @@ use crate::lines::put_refusal;
 use crate::lines::put_statement;
 use crate::lines::put_token;
 use crate::lines::put_why;
+use crate::row::filled;
 use crate::row::put;
 use crate::row::put_byte;
 use crate::row::put_column;
 use crate::row::put_number;
-use crate::row::within;
 use lexer::cursor::Cursor;
 use lexer::lexed::Lexed;
 use lexer::next::next;
@@ -87,7 +87,7 @@ fn unset(numbers: &mut [u32]) {
 fn put_numbers(out: &mut [u8], at: usize, numbers: &[u32]) -> usize
     ensures { λ r. ⌜ Within (now (out .exit)) r ⌝ }
 {
-    let mut end = within(out, at);
+    let mut end = filled(out, at);
     let mut i = 0;
     while i < numbers.len() {
         end = put_item(out, end, i, numbers[i]);
@@ -141,9 +141,9 @@ pub(crate) fn put_cut(out: &mut [u8], at: usize, text: &[u8], offset: usize) -> 
         Statement::Cut {
             start,
             length,
-            tokens,
+            any,
             next,
-        } => put_statement(out, at, start, length, tokens, next.at),
+        } => put_statement(out, at, start, length, any, next.at),
         Statement::Open {
             start,
             length,

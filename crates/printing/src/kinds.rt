@@ -1,7 +1,7 @@
 // The kinds' names. `names` makes all of them anew for each that it gives, which would cost more than the lexing: a program gathers
 // them once, 17 bytes each, and lends them on.
+use crate::row::filled;
 use crate::row::put_byte;
-use crate::row::within;
 ghost use Prim.Native.Nat.{_<_};
 ghost use Rattle.printing.specs.Rows.{Within};
 
@@ -31,7 +31,7 @@ fn gather(all: &mut [u8; 2992], kind: usize)
 pub(crate) fn put_kind(row: &mut [u8], at: usize, names: &[u8; 2992], kind: u32) -> usize
     ensures { λ r. ⌜ Within (now (row .exit)) r ⌝ }
 {
-    let mut end = within(row, at);
+    let mut end = filled(row, at);
     if 175 < kind {
         return end;
     }

@@ -99,20 +99,20 @@ pub(crate) fn put_refusal(
     put_place(out, named, start, length, offset)
 }
 
-// `tokens` is whether a token that is not TK_NONE came before the semicolon.
+// `any` is whether a token that is not TK_NONE came before the semicolon.
 pub(crate) fn put_statement(
     out: &mut [u8],
     at: usize,
     start: usize,
     length: usize,
-    tokens: bool,
+    any: bool,
     offset: usize,
 ) -> usize
     ensures { λ r. ⌜ Within (now (out .exit)) r ⌝ }
 {
     let named = put(out, at, b"CUT");
     let spanned = put_span(out, named, start, length);
-    let told = put_column(out, spanned, tokens as usize);
+    let told = put_column(out, spanned, any as usize);
     let placed = put_column(out, told, offset);
     put(out, placed, b"\n")
 }

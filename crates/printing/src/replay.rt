@@ -7,7 +7,7 @@ use crate::blocks::put_cut_block;
 use crate::blocks::put_list_block;
 use crate::blocks::put_walk_block;
 use lexer::cursor::Cursor;
-use lists::list::LONGEST;
+use lists::list::LONGEST_TEXT;
 use lists::list::Listed;
 use lists::list::list;
 ghost use Prim.Native.Nat.{_≤_};
@@ -63,15 +63,15 @@ fn records(text: &[u8], offset: usize, numbers: &mut [u32]) -> usize
 {
     let lent = first(numbers, MOST);
     match list(text, Cursor { at: offset }, &mut numbers[..lent]) {
-        Listed::End { records, next: _ } => least(records, LONGEST),
+        Listed::End { records, next: _ } => least(records, LONGEST_TEXT),
         Listed::Refused {
             why: _,
             start: _,
             length: _,
             records,
             next: _,
-        } => least(records, LONGEST),
+        } => least(records, LONGEST_TEXT),
         Listed::TooLong { next: _ } => 0,
-        Listed::ListFull { records, next: _ } => least(records, LONGEST),
+        Listed::ListFull { records, next: _ } => least(records, LONGEST_TEXT),
     }
 }

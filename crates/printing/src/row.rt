@@ -7,7 +7,7 @@ ghost use Rattle.printing.specs.Rows.{Within};
 
 // Writes the filled bytes.
 pub(crate) fn flush(row: &[u8], at: usize) {
-    let n = within(row, at);
+    let n = filled(row, at);
     io::write_all(STDOUT_FILENO, &row[..n]);
 }
 
@@ -29,7 +29,7 @@ pub(crate) fn put_byte(row: &mut [u8], at: usize, b: u8) -> usize
 pub(crate) fn put(row: &mut [u8], at: usize, text: &[u8]) -> usize
     ensures { λ r. ⌜ Within (now (row .exit)) r ⌝ }
 {
-    let mut end = within(row, at);
+    let mut end = filled(row, at);
     let mut i = 0;
     while i < text.len() {
         end = put_byte(row, end, text[i]);
@@ -56,7 +56,7 @@ pub(crate) fn put_column(row: &mut [u8], at: usize, n: usize) -> usize
 }
 
 // How many bytes are filled.
-pub(crate) fn within(row: &[u8], at: usize) -> usize
+pub(crate) fn filled(row: &[u8], at: usize) -> usize
     ensures { λ r. ⌜ Counts r (now (row .entry)) ⌝ }
 {
     if at <= row.len() { at } else { 0 }

@@ -4,7 +4,7 @@ use crate::kinds::all_names;
 use crate::row::flush;
 use crate::row::put;
 use libc::STDIN_FILENO;
-use lists::list::LONGEST;
+use lists::list::LONGEST_TEXT;
 
 // A line for each token, then how it ended. More than 65,535 bytes are refused as TooLong.
 pub fn print_text() {
@@ -13,7 +13,7 @@ pub fn print_text() {
     let mut text = io::large_buffer();
     let mut out = io::large_buffer();
     let n = io::read_full(STDIN_FILENO, &mut text);
-    if LONGEST < n {
+    if LONGEST_TEXT < n {
         let end = put(&mut out, 0, b"TooLong\t0\t0\t0\n");
         flush(&out, end);
         return;

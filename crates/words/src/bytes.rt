@@ -3,7 +3,7 @@ ghost use mathlib.Core.Path.{_≡_};
 ghost use Rattle.words.specs.Bytes.{within, isDigit, isHexdigit, isIdentifierStart, isIdentifierContinue, isBlank};
 
 // Whether b is lo, hi or a byte between them.
-pub(crate) fn between(lo: u8, hi: u8, b: u8) -> bool
+pub(crate) fn within(lo: u8, hi: u8, b: u8) -> bool
     ensures { λ r. ⌜ r ≡ within lo hi b ⌝ }
 {
     if b < lo {
@@ -15,7 +15,7 @@ pub(crate) fn between(lo: u8, hi: u8, b: u8) -> bool
 pub fn is_digit(b: u8) -> bool
     ensures { λ r. ⌜ r ≡ isDigit b ⌝ }
 {
-    between(b'0', b'9', b)
+    within(b'0', b'9', b)
 }
 
 pub fn is_hexdigit(b: u8) -> bool
@@ -24,19 +24,19 @@ pub fn is_hexdigit(b: u8) -> bool
     if is_digit(b) {
         return true;
     }
-    if between(b'A', b'F', b) {
+    if within(b'A', b'F', b) {
         return true;
     }
-    between(b'a', b'f', b)
+    within(b'a', b'f', b)
 }
 
 pub fn is_identifier_start(b: u8) -> bool
     ensures { λ r. ⌜ r ≡ isIdentifierStart b ⌝ }
 {
-    if between(b'A', b'Z', b) {
+    if within(b'A', b'Z', b) {
         return true;
     }
-    if between(b'a', b'z', b) {
+    if within(b'a', b'z', b) {
         return true;
     }
     if b == b'_' {

@@ -1,5 +1,5 @@
 // A word's kind: the word is folded to capitals in a row of 17 bytes and looked up among the rows of the word list.
-use crate::bytes::between;
+use crate::bytes::within;
 use keywords::kinds::TK_ID;
 use keywords::kinds::TK_TYPE;
 ghost use mathlib.Core.Path.{_≡_};
@@ -11,7 +11,7 @@ ghost use Rattle.words.specs.Word.{upper, fold, kindOf, isQuotable};
 fn upper(b: u8) -> u8
     ensures { λ r. ⌜ r ≡ upper b ⌝ }
 {
-    if between(b'a', b'z', b) {
+    if within(b'a', b'z', b) {
         return b - 32;
     }
     b
@@ -31,6 +31,7 @@ fn fold(word: &[u8]) -> [u8; 17]
     row
 }
 
+// The kind in the word list, ASCII letters folded; else TK_ID.
 pub fn keyword_or_id_token(word: &[u8]) -> u32
     ensures { λ r. ⌜ r ≡ kindOf (now (word .entry)) ⌝ }
 {
@@ -41,7 +42,7 @@ pub fn keyword_or_id_token(word: &[u8]) -> u32
     keywords::kind_of_row(fold(word), n)
 }
 
-// Whether an identifier with these bytes has to be quoted to be read back as one.
+// Whether the word is a keyword other than TYPE: its kind is neither TK_ID nor TK_TYPE.
 pub fn is_quotable_keyword(word: &[u8]) -> bool
     ensures { λ r. ⌜ r ≡ isQuotable (now (word .entry)) ⌝ }
 {

@@ -6,7 +6,7 @@ use lib.ListN.{length}
 use borrow.Author.Needs.{needs}
 use Rattle.lexer.specs.Values.{Lexes}
 use Rattle.lexer.proofs.Moves.{moves}
-use Rattle.lists.specs.Lists.{longest}
+use Rattle.lists.specs.Lists.{longestText}
 use Rattle.lists.proofs.WalkLaws.{token-told}
 use Rattle.lists.proofs.ListLaws.{Inside, begins, same-long, three, onward, end-lists, refusal-lists, full-lists, too-long-lists}
 use Rattle.lists.proofs.list.list.Statement.{statement}
@@ -14,7 +14,7 @@ use Rattle.lists.proofs.list.list.Tie as tie
 
 abbrev Inv-loop : tie.InvT-loop
 Inv-loop text numbers₀ at₀ records₀ filled₀ numbers at records filled =
-    Inside text (at₀ .at) numbers₀ numbers (at .at) records filled × (length text ≤ longest)
+    Inside text (at₀ .at) numbers₀ numbers (at .at) records filled × (length text ≤ longestText)
 
 abbrev μ-loop : tie.MeasureT-loop
 μ-loop text numbers₀ at₀ records₀ filled₀ numbers at records filled = length text - at .at

@@ -12,8 +12,8 @@ Inv-loop out₀ at numbers end₀ i₀ out end i = (length out ≡ length out₀
 abbrev μ-loop : tie.MeasureT-loop
 μ-loop out₀ at numbers end₀ i₀ out end i = length numbers - i
 
-within-requires : tie.Need-within-requires Inv-loop μ-loop
-within-requires c κs = search needs
+filled-requires : tie.Need-filled-requires Inv-loop μ-loop
+filled-requires c κs = search needs
 
 loop-holds : tie.Need-loop-holds Inv-loop μ-loop
 loop-holds c = search needs
@@ -51,7 +51,7 @@ put-numbers-spec =
     (tie.spec
     Inv-loop
     μ-loop
-    within-requires
+    filled-requires
     loop-holds
     mul-put-item
     shared-slice-read-put-item

@@ -12,8 +12,8 @@ Inv-loop row₀ at names kind end₀ i₀ past row end i = (end ≤ length row) 
 abbrev μ-loop : tie.MeasureT-loop
 μ-loop row₀ at names kind end₀ i₀ past row end i = past - i
 
-within-requires : tie.Need-within-requires Inv-loop μ-loop
-within-requires c κs = search needs
+filled-requires : tie.Need-filled-requires Inv-loop μ-loop
+filled-requires c κs = search needs
 
 same-length : tie.Need-same-length Inv-loop μ-loop
 same-length c = search needs
@@ -66,7 +66,7 @@ put-kind-spec =
     (tie.spec
     Inv-loop
     μ-loop
-    within-requires
+    filled-requires
     same-length
     returns
     mul-i

@@ -12,8 +12,8 @@ Inv-loop row₀ at text end₀ i₀ row end i = (end ≤ length row) × (length 
 abbrev μ-loop : tie.MeasureT-loop
 μ-loop row₀ at text end₀ i₀ row end i = length text - i
 
-within-requires : tie.Need-within-requires Inv-loop μ-loop
-within-requires c κs = search needs
+filled-requires : tie.Need-filled-requires Inv-loop μ-loop
+filled-requires c κs = search needs
 
 loop-holds : tie.Need-loop-holds Inv-loop μ-loop
 loop-holds c = search needs
@@ -45,7 +45,7 @@ put-spec =
     (tie.spec
     Inv-loop
     μ-loop
-    within-requires
+    filled-requires
     loop-holds
     shared-slice-read-put-byte
     put-byte-requires

@@ -12,25 +12,25 @@ returns : tie.Need-returns
 unfolding isHexdigit
 returns c = rw (sym (c .before .is-digit .ensures) ∙ c .if1 .taken)
 
-between-requires : tie.Need-between-requires
-between-requires c κs = search needs
+within-requires : tie.Need-within-requires
+within-requires c κs = search needs
 
 returns-2 : tie.Need-returns-2
 unfolding isHexdigit
 returns-2 c =
     let s = c .before in
-    rw (sym (s .before .before .is-digit .ensures) ∙ s .before .if1 .left, sym (s .between .ensures) ∙ c .if2 .taken)
+    rw (sym (s .before .before .is-digit .ensures) ∙ s .before .if1 .left, sym (s .within .ensures) ∙ c .if2 .taken)
 
-between-requires-2 : tie.Need-between-requires-2
-between-requires-2 c κs = search needs
+within-requires-2 : tie.Need-within-requires-2
+within-requires-2 c κs = search needs
 
 returns-3 : tie.Need-returns-3
 unfolding isHexdigit
 returns-3 c =
     let s = c .before .before in
-    rw (sym (s .before .before .is-digit .ensures) ∙ s .before .if1 .left, sym (s .between .ensures) ∙ c .before .if2 .left) (c .between2 .ensures)
+    rw (sym (s .before .before .is-digit .ensures) ∙ s .before .if1 .left, sym (s .within .ensures) ∙ c .before .if2 .left) (c .within2 .ensures)
 
 pub is-hexdigit-spec : {M : Type 1} → statement M
 is-hexdigit-spec =
     tie.close
-    (tie.spec is-digit-requires returns between-requires returns-2 between-requires-2 returns-3)
+    (tie.spec is-digit-requires returns within-requires returns-2 within-requires-2 returns-3)

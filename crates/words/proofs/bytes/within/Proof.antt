@@ -1,7 +1,7 @@
--- `words::bytes::between` meets its contract. Assumes nothing.
+-- `words::bytes::within` meets its contract. Assumes nothing.
 use borrow.Author.Tests.{lt-leb, le-leb}
-use Rattle.words.proofs.bytes.between.Statement.{statement}
-use Rattle.words.proofs.bytes.between.Tie as tie
+use Rattle.words.proofs.bytes.within.Statement.{statement}
+use Rattle.words.proofs.bytes.within.Tie as tie
 
 returns : tie.Need-returns
 returns c = rw (lt-leb _ _ (c .if1 .taken))
@@ -9,5 +9,5 @@ returns c = rw (lt-leb _ _ (c .if1 .taken))
 returns-2 : tie.Need-returns-2
 returns-2 c = rw (le-leb _ _ (c .if1 .left))
 
-pub between-spec : {M : Type 1} → statement M
-between-spec = tie.close (tie.spec returns returns-2)
+pub within-spec : {M : Type 1} → statement M
+within-spec = tie.close (tie.spec returns returns-2)

@@ -7,19 +7,19 @@ use Rattle.words.proofs.ByteLaws.{within-low}
 use Rattle.words.proofs.lookup.upper.Statement.{statement}
 use Rattle.words.proofs.lookup.upper.Tie as tie
 
-between-requires : tie.Need-between-requires
-between-requires c κs = search needs
+within-requires : tie.Need-within-requires
+within-requires c κs = search needs
 
 sub-result : tie.Need-sub-result
-sub-result c = omega (arith, within-low 97 _ (c .before .before .args .b) (sym (c .before .between .ensures) ∙ c .if1 .taken))
+sub-result c = omega (arith, within-low 97 _ (c .before .before .args .b) (sym (c .before .within .ensures) ∙ c .if1 .taken))
 
 returns : tie.Need-returns
 unfolding upper
-returns c = rw (sym (c .before .between .ensures) ∙ c .if1 .taken)
+returns c = rw (sym (c .before .within .ensures) ∙ c .if1 .taken)
 
 returns-2 : tie.Need-returns-2
 unfolding upper
-returns-2 c = rw (sym (c .before .between .ensures) ∙ c .if1 .left)
+returns-2 c = rw (sym (c .before .within .ensures) ∙ c .if1 .left)
 
 pub upper-spec : {M : Type 1} → statement M
-upper-spec = tie.close (tie.spec between-requires sub-result returns returns-2)
+upper-spec = tie.close (tie.spec within-requires sub-result returns returns-2)
