@@ -11,7 +11,7 @@
 #include "sqllex.h"
 
 /* One byte more than a list takes, so that a longer text is seen to be too long. */
-static uint8_t text[SQLLEX_LONGEST + 1];
+static uint8_t text[SQLLEX_LONGEST_TEXT + 1];
 
 /* Sixteen records at a time. */
 static uint32_t list[16 * SQLLEX_RECORD_WIDTH];

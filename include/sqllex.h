@@ -60,7 +60,7 @@ _Static_assert(sizeof(sqllex_answer) == 32, "the library's answers are four word
 #define SQLLEX_OPEN 102u
 
 /* The longest text that list and list_from take, in bytes. next and cut take any. */
-#define SQLLEX_LONGEST 65535u
+#define SQLLEX_LONGEST_TEXT 65535u
 
 /* How many numbers a record of a list has: kind, start, length. Three for each byte of the text are always enough. */
 #define SQLLEX_RECORD_WIDTH 3u
@@ -316,7 +316,7 @@ uint32_t sqllex_next(const uint8_t *text, size_t text_length, size_t offset, sql
  *     SQLLEX_TOO_LONG          0        0            0            offset
  *     SQLLEX_LIST_FULL         records  next         0            of the token that has no place
  *
- * SQLLEX_TOO_LONG, for a text of more than SQLLEX_LONGEST bytes, comes before any other. SQLLEX_LIST_FULL comes only where a token
+ * SQLLEX_TOO_LONG, for a text of more than SQLLEX_LONGEST_TEXT bytes, comes before any other. SQLLEX_LIST_FULL comes only where a token
  * is left and fewer than three numbers are: take the records out, and call again from `next` with the same list. (One of fewer
  * than three numbers is always full.)
  */
@@ -348,7 +348,7 @@ uint32_t sqllex_cut(const uint8_t *text, size_t text_length, size_t offset, sqll
 /* The kind of a word: its keyword's, ASCII letters in capitals or not; SQLLEX_TK_ID for any other bytes, and for none. */
 uint32_t sqllex_word_kind(const uint8_t *word, size_t word_length);
 
-/* Whether an identifier with these bytes has to be quoted: true for every keyword but TYPE. */
+/* Whether the word is a keyword other than TYPE, ASCII letters in capitals or not. */
 bool sqllex_is_quotable_keyword(const uint8_t *word, size_t word_length);
 
 #ifdef __cplusplus

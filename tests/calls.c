@@ -19,7 +19,7 @@
 #include "sqllex.h"
 
 #define TEXT_MOST 70000u
-#define LIST_MOST (SQLLEX_LONGEST * SQLLEX_RECORD_WIDTH + 4)
+#define LIST_MOST (SQLLEX_LONGEST_TEXT * SQLLEX_RECORD_WIDTH + 4)
 #define BESIDE 64u    /* bytes beside a list or an answer that are looked at */
 #define OLD_BYTE 0xff /* what all these are before a call */
 #define OLD 4294967295
@@ -238,7 +238,7 @@ static void print_cut(size_t offset)
 static void print_replay(size_t offset)
 {
     size_t tokens = print_walk(offset);
-    size_t enough = text_length > SQLLEX_LONGEST ? 0 : tokens * SQLLEX_RECORD_WIDTH;
+    size_t enough = text_length > SQLLEX_LONGEST_TEXT ? 0 : tokens * SQLLEX_RECORD_WIDTH;
     for (size_t length = 0; length < 8; length++)
         print_list(offset, length);
     print_list(offset, enough > 0 ? enough - 1 : 0);
@@ -376,10 +376,10 @@ static void try_long(void)
 {
     static unsigned char bytes[TEXT_MOST];
     memset(bytes, ';', sizeof bytes);
-    set_text(bytes, SQLLEX_LONGEST);
-    LIST(0, SQLLEX_LONGEST * 3, SQLLEX_END, SQLLEX_LONGEST, SQLLEX_LONGEST, 0, SQLLEX_LONGEST);
-    LIST(0, SQLLEX_LONGEST * 3 - 1, SQLLEX_LIST_FULL, SQLLEX_LONGEST - 1, SQLLEX_LONGEST - 1, 0, SQLLEX_LONGEST - 1);
-    set_text(bytes, SQLLEX_LONGEST + 1);
+    set_text(bytes, SQLLEX_LONGEST_TEXT);
+    LIST(0, SQLLEX_LONGEST_TEXT * 3, SQLLEX_END, SQLLEX_LONGEST_TEXT, SQLLEX_LONGEST_TEXT, 0, SQLLEX_LONGEST_TEXT);
+    LIST(0, SQLLEX_LONGEST_TEXT * 3 - 1, SQLLEX_LIST_FULL, SQLLEX_LONGEST_TEXT - 1, SQLLEX_LONGEST_TEXT - 1, 0, SQLLEX_LONGEST_TEXT - 1);
+    set_text(bytes, SQLLEX_LONGEST_TEXT + 1);
     LIST(0, 9, SQLLEX_TOO_LONG, 0, 0, 0, 0);
     require(list[0] == OLD, "a list of a text that is too long was written");
     LIST(7, 0, SQLLEX_TOO_LONG, 0, 0, 0, 7);
