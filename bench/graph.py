@@ -1,0 +1,71 @@
+"""The call graph of a library with the stack that each function takes, read from the assembly that clang writes with -fstack-size-section;
+and the sizes of an object file's sections. Nothing but the kit is needed for either."""
+import ast
+import re
+
+NAME = r'"?([^\s",]+)"?'
+FUNCTION = re.compile(rf"(?m)^\s\.type\s+{NAME},[@%]function")
+JUMP = re.compile(rf"^\s(call\w*|bl|blx|j\w+|b[\w.]*)\s+{NAME}")
+CALLS = "call", "callq", "bl", "blx"
+
+
+class Function:
+    def __init__(self):
+        self.frame = 0
+        self.below = 0  # x86-64: a function that calls none may use 128 bytes below its stack pointer, which are no part of its frame
+        self.calls, self.tail_calls = set(), set()
+
+
+def unsigned(line):
+    """A number of .stack_sizes: one byte, or seven bits in each of several."""
+    kind, value = line.split(None, 1)
+    data = ast.literal_eval("b" + value) if kind == ".ascii" else bytes([int(value, 0)])
+    return sum((byte & 127) << 7 * i for i, byte in enumerate(data))
+
+
+def functions(assembly):
+    text = assembly.read_text()
+    found, now, lines = {name: Function() for name in FUNCTION.findall(text)}, None, text.split("\n")
+    for i, line in enumerate(lines):
+        if begun := FUNCTION.match(line):
+            now = found[begun[1]]
+        elif size := re.match(r'\s\.section\s+\.stack_sizes,.*\.text\.([^"\s]+)', line):
+            found[size[1]].frame = unsigned(lines[i + 2].strip())
+        elif (jump := JUMP.match(line)) and (jump[1] in CALLS or jump[2] in found):
+            (now.calls if jump[1] in CALLS else now.tail_calls).add(jump[2])
+        elif now:
+            now.below = max([now.below] + [int(n) for n in re.findall(r"\s-(\d+)\(%rsp", line)])
+    return found
+
+
+def bound(found, name, pushed, above=()):
+    """The deepest chain of calls from a function: its bytes, and its functions. `pushed` is what a call itself puts on the stack."""
+    if name in above or name not in found:  # recursion; a call through a pointer, or of what is elsewhere
+        raise SystemExit(f"bench: FAIL: there is no bound where {above[-1]} calls {name}")
+    here = found[name]
+    own = pushed + here.frame + here.below
+    below = {other: bound(found, other, pushed, (*above, name)) for other in sorted(here.calls | here.tail_calls)}
+    deeper = [(own + below[other][0], below[other][1]) for other in here.calls]
+    deeper += [(max(own, below[other][0]), below[other][1]) for other in here.tail_calls]  # the frame was given back before
+    size, chain = max(deeper, default=(own, []))
+    return size, [f"{name} {own}", *chain]
+
+
+def reached(found, name, seen=frozenset()):
+    """The functions that a call of this one can come to, itself among them."""
+    seen |= {name}
+    for other in (found[name].calls | found[name].tail_calls) - seen:
+        seen |= reached(found, other, seen)
+    return seen
+
+
+def sections(file):
+    """Sizes of the sections that are loaded, by name: the section headers of an ELF file, 64 or 32 bits wide, little-endian."""
+    data = file.read_bytes()
+    number = lambda at, width: int.from_bytes(data[at:at + width], "little")
+    word, table, each, tail = (8, 0x28, 64, 0x3C) if data[4] == 2 else (4, 0x20, 40, 0x30)
+    heads = [number(table, word) + i * each for i in range(number(tail, 2))]
+    flags, _, offset, size = (lambda head, k=k: number(head + 8 + k * word, word) for k in range(4))
+    names = offset(heads[number(tail + 2, 2)])
+    name = lambda head: data[names + number(head, 4):].split(b"\0", 1)[0].decode()
+    return {name(head): size(head) for head in heads if flags(head) & 2}

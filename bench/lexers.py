@@ -1,0 +1,101 @@
+"""The three lexers, each as what a C program links, for each machine."""
+import functools
+import os
+import pathlib
+import re
+import subprocess
+
+from machines import HERE, M4, OUT, ROOT, X86, Missing, compile_c, need, run
+
+KIT = pathlib.Path(run("rt", "doc").strip()).parent.parent / "on" / os.uname().machine / "toolchain/bin"
+ARCHIVE, MODULE = ROOT / "target/staticlib/libcapi.a", OUT / "module.bc"
+MEMCHR, REAL_MEMCHR = ROOT / "oracle/stand-ins/memchr/src/lib.rs", pathlib.Path("/usr/share/cargo/registry/memchr-2.5.0/src/lib.rs")
+# bench/setup fetches the source, which is compiled for both machines; Debian's library is x86-64 code.
+SQLITE_SOURCE, SQLITE_LIBRARY = OUT / "sqlite", pathlib.Path("/usr/lib/x86_64-linux-gnu/libsqlite3.a")
+RUST_TARGET = "x86_64-unknown-linux-gnu"
+M4_TARGET, M4_LAYOUT = "thumbv7em-none-unknown-eabi", "e-m:e-p:32:32-Fi8-i64:64-v128:64:128-a:0:32-n32-S64"
+
+
+def kit_flags(machine):
+    """The words that the kit's clang was given for the archive, but for files; for the M4 without those that name the processor."""
+    words = (OUT / "flags").read_text().split("\n")
+    words = words[:words.index("-c")] + [word for word in words if word in ("-fPIC", "-O3")]
+    if machine is X86:
+        return words
+    words = [word for word in words if not word.startswith(("--target", "-march", "-fPIC", "-Werror"))]
+    return words + [f"--target={M4_TARGET}", "-mcpu=cortex-m4", "-mfloat-abi=soft", "-Wno-override-module"]
+
+
+def retarget(module):
+    """A module for x86-64 made one for the M4 by its head and attributes alone: its usize stays 64 bits wide. For measuring only."""
+    text = OUT / "retargeted.ll"
+    run(KIT / "clang", "-x", "ir", module, "-O0", "-Xclang", "-disable-llvm-passes", "-S", "-emit-llvm", "-Wno-override-module", "-o", text)
+    code = re.sub(r"(?m)^target datalayout.*", f'target datalayout = "{M4_LAYOUT}"', text.read_text())
+    code = re.sub(r"(?m)^target triple.*", f'target triple = "{M4_TARGET}"', code)
+    text.write_text(re.sub(r' "(probe-stack|target-cpu|target-features|tune-cpu)"="[^"]*"', "", code))
+    return text
+
+
+def compile_module(machine, module, output, *flags):
+    run(KIT / "clang", *kit_flags(machine), *(flags or ["-c"]), "-x", "ir", retarget(module) if machine is M4 else module, "-o", output)
+    return output
+
+
+def is_archives(file):
+    """Whether an object file is the one in the archive, byte for byte."""
+    return subprocess.check_output([KIT / "llvm-ar", "p", ARCHIVE]) == file.read_bytes()
+
+
+def of_list(machine):
+    return [ARCHIVE if machine is X86 else compile_module(M4, MODULE, OUT / "capi.m4.o")]
+
+
+@functools.cache
+def rust(folder, memchr, *flags):
+    need("rustc", "Rust's own installer has it; Debian's is too old")
+    if not pathlib.Path(run("rustc", "--print", "target-libdir", "--target", RUST_TARGET).strip()).exists():
+        raise Missing(f"rustc has no core library for {RUST_TARGET} (rustup target add {RUST_TARGET})")
+    run(HERE / "rust/build", OUT / folder, memchr, *flags)
+    return OUT / folder
+
+
+def of_rust(machine):
+    folder = rust("rust", MEMCHR)
+    if machine is X86:
+        return [folder / "liblist.a"]
+    objects = [compile_module(M4, folder / f"{name}.ll", OUT / f"{name}.m4.o") for name in ("list", "memchr")]
+    return objects + ["-Wl,--unresolved-symbols=ignore-all"]  # what the Rust would call to refuse or panic: no text here comes to it
+
+
+def of_rust_with_real_memchr(machine):
+    if not REAL_MEMCHR.exists():
+        raise Missing("the crate memchr 2.5.0 is not here (Debian: librust-memchr-dev)")
+    simd = [word for part in ("simd", "sse2", "sse42", "avx") for word in ("--cfg", f"memchr_runtime_{part}")]
+    return [rust("rust-real", REAL_MEMCHR, *simd, "--cfg", 'feature="std"') / "liblist.a"]
+
+
+def of_sqlite(machine):
+    if SQLITE_SOURCE.exists():
+        return ["-DFROM_SOURCE", "-I", SQLITE_SOURCE, "-I", SQLITE_SOURCE / "src", HERE / "sqlite.c"]
+    if machine is X86 and SQLITE_LIBRARY.exists():
+        return [HERE / "sqlite.c", SQLITE_LIBRARY, "-lm", "-ldl", "-lpthread"]
+    raise Missing("SQLite's source is not here (bench/setup fetches it)" + ("" if machine is M4 else ", nor its library (Debian: libsqlite3-dev)"))
+
+
+LEXERS = {  # the symbol of List, what is linked, flags of the measuring program
+    "List": ("sqllex_list", of_list, []),
+    "Rust": ("rust_list", of_rust, []),
+    "Rust+": ("rust_list", of_rust_with_real_memchr, []),
+    "SQLite": ("sqlite_list", of_sqlite, []),
+    "calls": ("sqllex_list", of_list, ["-DALL_CALLS"]),
+    "nothing": ("nothing", lambda machine: ["-Wl,--defsym=nothing=0"], []),  # what the program has without a lexer
+}
+
+
+@functools.cache
+def program(machine, lexer):
+    """The measuring program with one lexer."""
+    symbol, parts, flags = LEXERS[lexer]
+    output = OUT / f"{lexer}.{machine.name}"
+    compile_c(machine, output, f"-DLIST={symbol}", *flags, HERE / "program.c", *machine.extra, *parts(machine))
+    return output

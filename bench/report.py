@@ -1,0 +1,64 @@
+#!/usr/bin/env python3
+"""Prints all figures, then tests the targets: called by bench/run. Status 1 where a target is missed or a list is wrong."""
+import os
+import shutil
+import sys
+
+from lexers import KIT, MODULE, SQLITE_SOURCE, compile_module, is_archives
+from machines import M4, OUT, X86, Missing, run
+from space import linked, sizes, stacks
+from speed import growth, instructions, length, profile, same_lists, total
+
+MOST_STACK = 3584  # bytes
+MOST_INSTRUCTIONS = 110  # a byte
+MOST_GROWTH = 1  # percent from linear
+
+
+def part(title, measure, *arguments):
+    print(f"\n== {title}", flush=True)
+    try:
+        return measure(*arguments)
+    except Missing as why:
+        print(f"SKIPPED: {why}")
+
+
+def versions():
+    print(f"host: {os.uname().machine}; {run('rt', 'version').strip()}")
+    commands = [KIT / "clang", "rustc", X86.compiler, M4.compiler, X86.emulator, M4.emulator]
+    for command in [command for command in commands if shutil.which(command)]:
+        print(f"{os.path.basename(command)}: {run(command, '--version').splitlines()[0]}")
+    print(f"SQLite: {'source of ' + (SQLITE_SOURCE / 'VERSION').read_text().strip() if SQLITE_SOURCE.exists() else 'the installed library'}")
+    if not is_archives(compile_module(X86, MODULE, OUT / "again.o")):
+        raise SystemExit("bench: FAIL: the kept module, compiled again, is not the object in the archive")
+    print("the kept module, compiled again with the kit's flags, is the archive's object byte for byte")
+
+
+def test(what, value, most):
+    print(f"{'PASS' if value <= most else 'FAIL'}  {what}: {value}, at most {most}")
+    return value <= most
+
+
+def main():
+    part("Versions", versions)
+    part("The lists", same_lists)
+    part("Instructions a byte, x86-64", instructions, X86, ["List", "Rust", "Rust+", "SQLite"])
+    part("Instructions a byte, Cortex-M4", instructions, M4, ["List", "Rust", "SQLite"])
+    worst = part("How List grows, x86-64: one text once, twice and four times", growth)
+    bound = max(part(f"Stack in bytes, {machine.name}", stacks, machine) for machine in (X86, M4))
+    for machine in X86, M4:
+        part(f"Code size in bytes, {machine.name}", sizes, machine)
+    part("Code size in bytes, Cortex-M4: what List adds to a program", linked, M4)
+    for machine in X86, M4:
+        part(f"List by function, text sync, {machine.name}", profile, machine)
+    print("\n== Targets")
+    good = test("stack bound of a whole call, in bytes, both machines", bound, MOST_STACK)
+    if worst is None:
+        print("SKIPPED  instructions a byte, and growth: nothing was counted")
+    else:
+        good &= test("List, instructions a byte of the text sync, x86-64", round(total(X86, "List", "sync") / length("sync"), 2), MOST_INSTRUCTIONS)
+        good &= test("growth of List, percent from linear, x86-64", round(worst, 4), MOST_GROWTH)
+    return 0 if good else 1
+
+
+if __name__ == "__main__":
+    sys.exit(main())

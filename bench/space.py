@@ -1,0 +1,57 @@
+"""Stack and code size."""
+import functools
+
+import graph
+from lexers import MODULE, compile_module, program
+from machines import OUT, Missing, output_of
+from speed import KINDS_OF_TEXT, present, text
+
+ENTRIES = "sqllex_next", "sqllex_list", "sqllex_list_from", "sqllex_cut"
+
+
+@functools.cache
+def functions(machine):
+    """Of the library. Its archive has no stack sizes, so its module is compiled again, with the same flags, to assembly that has them."""
+    return graph.functions(compile_module(machine, MODULE, OUT / f"capi.{machine.name}.s", "-S", "-fstack-size-section"))
+
+
+def painted(machine):
+    """What calls really used: the most of all texts."""
+    most = {}
+    for name in KINDS_OF_TEXT:
+        for line in output_of(machine, program(machine, "calls"), text(name), "stack").splitlines():
+            call, size = line.split()
+            most[call] = max(most.get(call, 0), int(size))
+    return most
+
+
+def stacks(machine):
+    """Prints a line for each call, and gives the largest bound."""
+    try:
+        used = painted(machine)
+    except Missing as why:
+        used = {}
+        print(f"SKIPPED what was used: {why}")
+    bounds = {entry: graph.bound(functions(machine), entry, machine.pushed) for entry in ENTRIES}
+    for entry, (size, chain) in bounds.items():
+        print(f"{entry:18} bound {size:5,}  used {format(used[entry], ',') if entry in used else '-':>5}   {' > '.join(chain)}")
+    return max(size for size, _ in bounds.values())
+
+
+def sizes(machine):
+    found, size = functions(machine), graph.sections(compile_module(machine, MODULE, OUT / f"capi.{machine.name}.o"))
+    constants = sum(n for name, n in size.items() if name.startswith(".rodata"))
+    code = lambda names: sum(size[".text." + name] for name in names)
+    print(f"{'the library':42}{code(found) + constants:7,}")
+    for entry in ENTRIES:
+        print(f"{'what a program with ' + entry + ' has':42}{code(graph.reached(found, entry)) + constants:7,}")
+    for name in found:
+        print(f"    {name:38}{code([name]):7,}")
+    print(f"    {'constants':38}{constants:7,}")
+
+
+def linked(machine):
+    """A program's code and constants, less those of the same program without a lexer."""
+    loaded = lambda lexer: sum(n for name, n in graph.sections(program(machine, lexer)).items() if name != ".bss")
+    for lexer in present(machine, ["List", "Rust", "SQLite"]):
+        print(f"{lexer:42}{loaded(lexer) - loaded('nothing'):7,}")

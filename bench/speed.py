@@ -1,0 +1,97 @@
+"""Instructions: of the three lexers a byte, of List by function, and how List grows."""
+import functools
+import re
+
+from lexers import program
+from machines import M4, OUT, ROOT, X86, Missing, one_pass, output_of, run
+
+KINDS_OF_TEXT = "sync", "keywords", "names", "floats", "operators", "string"
+
+
+def text(name):
+    return OUT / f"texts/{name}.sql"
+
+
+def length(name):
+    return text(name).stat().st_size
+
+
+@functools.cache
+def cost(machine, lexer, name):
+    """Instructions of one pass, by address."""
+    return one_pass(machine, program(machine, lexer), text(name))
+
+
+def total(machine, lexer, name):
+    return sum(cost(machine, lexer, name).values())
+
+
+@functools.cache
+def records(machine, lexer, name):
+    return output_of(machine, program(machine, lexer), text(name), "dump").splitlines()
+
+
+def with_names(lines, names):
+    return [(names[int(line.split()[0])], *line.split()[1:]) for line in lines]
+
+
+def same_lists():
+    """List and the Rust: kinds by name, starts and lengths. (SQLite's kinds are its own, and it ends a comment before the newline.)"""
+    ours = {int(n): name for n, name in re.findall(r"(?m)^\| (\d+) \| (TK_\w+) \|", (ROOT / "docs/KINDS.md").read_text())}
+    rusts = {int(n): name for name, n in re.findall(r"(TK_\w+) = (\d+),", (ROOT / "oracle/turso_parser/src/token.rs").read_text())}
+    for name in KINDS_OF_TEXT:
+        if with_names(records(X86, "List", name), ours) != with_names(records(X86, "Rust", name), rusts):
+            raise SystemExit(f"bench: FAIL: List and the Rust wrote different records of the text {name}")
+    print(f"List and the Rust wrote the same records of {len(KINDS_OF_TEXT)} texts: kinds by name, starts, lengths")
+
+
+def present(machine, lexers):
+    """List, and those of the other lexers that can be built here."""
+    there = []
+    program(machine, "List")
+    for lexer in lexers:
+        try:
+            program(machine, lexer)
+            there.append(lexer)
+        except Missing as why:
+            print(f"SKIPPED {lexer}: {why}")
+    return there
+
+
+def instructions(machine, lexers):
+    lexers = present(machine, lexers)
+    print(f"{'text':12}{'records':>8}" + "".join(f"{lexer:>10}" for lexer in lexers))
+    for name in KINDS_OF_TEXT:
+        numbers = {lexer: len(records(machine, lexer, name)) for lexer in lexers}
+        if machine is M4 and any(records(M4, lexer, name) != records(X86, lexer, name) for lexer in lexers):
+            raise SystemExit(f"bench: FAIL: records of the text {name} differ between the two machines")
+        a_byte = "".join(f"{total(machine, lexer, name) / length(name):10.2f}" for lexer in lexers)
+        others = [f"{lexer}: {n:,} records" for lexer, n in numbers.items() if n != numbers[lexers[0]]]
+        print(f"{name:12}{numbers[lexers[0]]:8,}{a_byte}  {'; '.join(others)}")
+
+
+def growth():
+    """Prints a line for each length, and gives the most percent from linear."""
+    worst = 0
+    for times in 1, 2, 4:
+        name = f"grow{times}"
+        here = total(X86, "List", name)
+        percent = 100 * (here / (times * total(X86, "List", "grow1")) - 1)
+        print(f"{length(name):7,} bytes {here:10,.0f} instructions {here / length(name):8.3f} a byte {percent:+8.4f} % from linear")
+        worst = max(worst, abs(percent))
+    return worst
+
+
+def profile(machine):
+    """List by function: instructions a byte, share, calls, instructions a call, and how many of these are run just once in every call."""
+    times = cost(machine, "List", "sync")
+    table = re.findall(r"(?m)^(\w+) [tT] (.*)$", run(machine.nm, program(machine, "List")))
+    symbols = sorted((int(address, 16) & ~1, name) for address, name in table)  # a Thumb function's address is odd
+    parts = {}
+    for address, count in times.items():
+        if count:
+            parts.setdefault(max(symbol for symbol in symbols if symbol[0] <= address), []).append(count)
+    print(f"{'function':38}{'a byte':>8}{'share':>8}{'calls':>8}{'a call':>10}{'once':>6}")
+    for (start, name), part in sorted(parts.items(), key=lambda item: -sum(item[1])):
+        calls = times.get(start) or 1
+        print(f"{name:38}{sum(part) / length('sync'):8.2f}{sum(part) / sum(times.values()):8.1%}{calls:8,.0f}{sum(part) / calls:10,.1f}{part.count(calls):6}")
