@@ -40,9 +40,9 @@ def functions(assembly):
 
 def bound(found, name, pushed, above=()):
     """The deepest chain of calls from a function: its bytes, and its functions. `pushed` is what a call itself puts on the stack."""
-    if name in above or name not in found:  # recursion; a call through a pointer, or of what is elsewhere
-        raise SystemExit(f"bench: FAIL: there is no bound where {above[-1]} calls {name}")
-    here = found[name]
+    if name in above:
+        raise SystemExit(f"bench: FAIL: there is no bound on the stack, since {name} comes to call itself")
+    here = found.get(name, Function())  # of what is elsewhere nothing is known: see `elsewhere`
     own = pushed + here.frame + here.below
     below = {other: bound(found, other, pushed, (*above, name)) for other in sorted(here.calls | here.tail_calls)}
     deeper = [(own + below[other][0], below[other][1]) for other in here.calls]
@@ -51,10 +51,15 @@ def bound(found, name, pushed, above=()):
     return size, [f"{name} {own}", *chain]
 
 
+def elsewhere(found):
+    """What is called and is not in the library: functions of the C library, and calls through a pointer."""
+    return set().union(*(function.calls for function in found.values())) - set(found)
+
+
 def reached(found, name, seen=frozenset()):
     """The functions that a call of this one can come to, itself among them."""
     seen |= {name}
-    for other in (found[name].calls | found[name].tail_calls) - seen:
+    for other in (found[name].calls | found[name].tail_calls) & set(found) - seen:
         seen |= reached(found, other, seen)
     return seen
 

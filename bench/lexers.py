@@ -9,10 +9,10 @@ from machines import HERE, M4, OUT, ROOT, X86, Missing, compile_c, need, run
 
 KIT = pathlib.Path(run("rt", "doc").strip()).parent.parent / "on" / os.uname().machine / "toolchain/bin"
 ARCHIVE, MODULE = ROOT / "target/staticlib/libcapi.a", OUT / "module.bc"
-MEMCHR, REAL_MEMCHR = ROOT / "oracle/stand-ins/memchr/src/lib.rs", pathlib.Path("/usr/share/cargo/registry/memchr-2.5.0/src/lib.rs")
+RUST_TARGET, RUSTC_FOR_M4 = "x86_64-unknown-linux-gnu", OUT / "rustc/usr/bin/rustc"
+REAL_MEMCHR = pathlib.Path("/usr/share/cargo/registry/memchr-2.5.0/src/lib.rs")
 # bench/setup fetches the source, which is compiled for both machines; Debian's library is x86-64 code.
 SQLITE_SOURCE, SQLITE_LIBRARY = OUT / "sqlite", pathlib.Path("/usr/lib/x86_64-linux-gnu/libsqlite3.a")
-RUST_TARGET = "x86_64-unknown-linux-gnu"
 M4_TARGET, M4_LAYOUT = "thumbv7em-none-unknown-eabi", "e-m:e-p:32:32-Fi8-i64:64-v128:64:128-a:0:32-n32-S64"
 
 
@@ -51,27 +51,26 @@ def of_list(machine):
 
 
 @functools.cache
-def rust(folder, memchr, *flags):
-    need("rustc", "Rust's own installer has it; Debian's is too old")
-    if not pathlib.Path(run("rustc", "--print", "target-libdir", "--target", RUST_TARGET).strip()).exists():
-        raise Missing(f"rustc has no core library for {RUST_TARGET} (rustup target add {RUST_TARGET})")
-    run(HERE / "rust/build", OUT / folder, memchr, *flags)
-    return OUT / folder
+def rust(machine, folder, memchr, *flags):
+    if machine is M4 and not RUSTC_FOR_M4.exists():
+        raise Missing("a compiler with its core library's source is not here (bench/setup unpacks one)")
+    if machine is X86:
+        need("rustc", "Rust's own installer has it; Debian's is too old")
+        if not pathlib.Path(run("rustc", "--print", "target-libdir", "--target", RUST_TARGET).strip()).exists():
+            raise Missing(f"rustc has no core library for {RUST_TARGET} (rustup target add {RUST_TARGET})")
+    run(HERE / "rust/build", OUT / folder, machine.name, memchr, *flags)
+    return [OUT / folder / "liblist.a"]
 
 
 def of_rust(machine):
-    folder = rust("rust", MEMCHR)
-    if machine is X86:
-        return [folder / "liblist.a"]
-    objects = [compile_module(M4, folder / f"{name}.ll", OUT / f"{name}.m4.o") for name in ("list", "memchr")]
-    return objects + ["-Wl,--unresolved-symbols=ignore-all"]  # what the Rust would call to refuse or panic: no text here comes to it
+    return rust(machine, f"rust-{machine.name}", ROOT / "oracle/stand-ins/memchr/src/lib.rs")
 
 
 def of_rust_with_real_memchr(machine):
     if not REAL_MEMCHR.exists():
         raise Missing("the crate memchr 2.5.0 is not here (Debian: librust-memchr-dev)")
     simd = [word for part in ("simd", "sse2", "sse42", "avx") for word in ("--cfg", f"memchr_runtime_{part}")]
-    return [rust("rust-real", REAL_MEMCHR, *simd, "--cfg", 'feature="std"') / "liblist.a"]
+    return rust(machine, "rust-real", REAL_MEMCHR, *simd, "--cfg", 'feature="std"')
 
 
 def of_sqlite(machine):

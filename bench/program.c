@@ -2,12 +2,14 @@
  *   program FILE REPEATS   List of the text, so many times: instructions of one pass = (those of 3 passes - those of 1) / 2
  *   program FILE dump      the records, a line each
  *   program FILE stack     bytes of stack that calls really used: see painted()
- * A length is 64 bits wide on both machines: so the library has it, and the Rust, which is compiled for the M4 in the same way. */
+ * A length is 64 bits wide on both machines, since the library has it so. */
 #include <stdint.h>
 #include <stdio.h>
 #include <stdlib.h>
 #include <string.h>
 
+#define NAME(symbol) QUOTED(symbol)
+#define QUOTED(word) #word
 enum { TEXT = 65535, NUMBERS = 3 * TEXT, LANE = 65536 };
 static uint8_t text[TEXT + 1]; /* SQLite wants a 0 behind the text */
 static uint32_t list[NUMBERS];
@@ -80,7 +82,7 @@ static unsigned painted_at_places(uint32_t (*call)(const uint8_t *, uint64_t, ui
 
 static void stack(void)
 {
-    printf("sqllex_list %u\n", painted_list());
+    printf(NAME(LIST) " %u\n", painted_list());
 #ifdef ALL_CALLS
     enum { CUT = 101 };
     uint64_t records = LIST(text, length, list, NUMBERS);

@@ -27,6 +27,8 @@ def versions():
     commands = [KIT / "clang", "rustc", X86.compiler, M4.compiler, X86.emulator, M4.emulator]
     for command in [command for command in commands if shutil.which(command)]:
         print(f"{os.path.basename(command)}: {run(command, '--version').splitlines()[0]}")
+    for source in (OUT / "rustc/usr/src").glob("rustc-*"):
+        print(f"the Rust for the Cortex-M4: {source.name}")
     print(f"SQLite: {'source of ' + (SQLITE_SOURCE / 'VERSION').read_text().strip() if SQLITE_SOURCE.exists() else 'the installed library'}")
     if not is_archives(compile_module(X86, MODULE, OUT / "again.o")):
         raise SystemExit("bench: FAIL: the kept module, compiled again, is not the object in the archive")

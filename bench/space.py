@@ -15,26 +15,31 @@ def functions(machine):
     return graph.functions(compile_module(machine, MODULE, OUT / f"capi.{machine.name}.s", "-S", "-fstack-size-section"))
 
 
-def painted(machine):
-    """What calls really used: the most of all texts."""
+def painted(machine, lexer):
+    """What calls really used, by symbol: the most of all texts."""
     most = {}
     for name in KINDS_OF_TEXT:
-        for line in output_of(machine, program(machine, "calls"), text(name), "stack").splitlines():
-            call, size = line.split()
-            most[call] = max(most.get(call, 0), int(size))
+        for line in output_of(machine, program(machine, lexer), text(name), "stack").splitlines():
+            symbol, size = line.split()
+            most[symbol] = max(most.get(symbol, 0), int(size))
     return most
 
 
 def stacks(machine):
     """Prints a line for each call, and gives the largest bound."""
-    try:
-        used = painted(machine)
-    except Missing as why:
-        used = {}
-        print(f"SKIPPED what was used: {why}")
+    used = {}
+    for lexer in "calls", "Rust", "SQLite":
+        try:
+            used |= painted(machine, lexer)
+        except Missing as why:
+            print(f"SKIPPED what was used by {lexer}: {why}")
     bounds = {entry: graph.bound(functions(machine), entry, machine.pushed) for entry in ENTRIES}
-    for entry, (size, chain) in bounds.items():
-        print(f"{entry:18} bound {size:5,}  used {format(used[entry], ',') if entry in used else '-':>5}   {' > '.join(chain)}")
+    for entry in [*ENTRIES, *sorted(set(used) - set(ENTRIES))]:
+        size, chain = bounds.get(entry, (None, []))
+        figure = lambda n: f"{n:,}" if n else "-"
+        print(f"{entry:18} bound {figure(size):>5}  used {figure(used.get(entry)):>5}   {' > '.join(chain)}")
+    if unknown := graph.elsewhere(functions(machine)):
+        print(f"not counted, since they are not in the library: {', '.join(sorted(unknown))}")
     return max(size for size, _ in bounds.values())
 
 

@@ -93,5 +93,5 @@ def profile(machine):
             parts.setdefault(max(symbol for symbol in symbols if symbol[0] <= address), []).append(count)
     print(f"{'function':38}{'a byte':>8}{'share':>8}{'calls':>8}{'a call':>10}{'once':>6}")
     for (start, name), part in sorted(parts.items(), key=lambda item: -sum(item[1])):
-        calls = times.get(start) or 1
+        calls = times.get(start) or 1  # of the program's main, which goes on with the next pass, its beginning is not run again
         print(f"{name:38}{sum(part) / length('sync'):8.2f}{sum(part) / sum(times.values()):8.1%}{calls:8,.0f}{sum(part) / calls:10,.1f}{part.count(calls):6}")
