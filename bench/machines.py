@@ -29,7 +29,7 @@ def run(*words):
 class X86:
     name, compiler, emulator = "x86-64", "x86_64-linux-gnu-gcc", "qemu-x86_64"
     compiler_package, emulator_package = "Debian: gcc and libc6-dev; on Arm gcc-x86-64-linux-gnu and libc6-dev-amd64-cross", "Debian: qemu-user"
-    flags, extra, nm = ["-static"], [], "x86_64-linux-gnu-nm"
+    library, flags, extra, nm = "libc.a", ["-static"], [], "x86_64-linux-gnu-nm"
     pushed = 8  # bytes that a call itself puts on the stack
 
     @staticmethod
@@ -41,7 +41,7 @@ class M4:
     name, compiler, emulator = "Cortex-M4", "arm-none-eabi-gcc", "qemu-system-arm"
     compiler_package, emulator_package = "Debian: gcc-arm-none-eabi and libnewlib-arm-none-eabi", "Debian: qemu-system-arm"
     flags = ["-mcpu=cortex-m4", "-mthumb", "-mfloat-abi=soft", "--specs=rdimon.specs", "-T", HERE / "m4.ld", "-Wl,--no-warn-execstack"]
-    extra, nm = [HERE / "m4.c"], "arm-none-eabi-nm"
+    library, extra, nm = "rdimon.specs", [HERE / "m4.c"], "arm-none-eabi-nm"
     pushed = 0
 
     @staticmethod
@@ -54,6 +54,8 @@ class M4:
 def compile_c(machine, output, *words):
     """What nothing calls is left out, so that SQLite and the Rust need no operating system on the M4."""
     need(machine.compiler, machine.compiler_package)
+    if run(machine.compiler, f"-print-file-name={machine.library}").strip() == machine.library:
+        raise Missing(f"{machine.compiler} finds no {machine.library} ({machine.compiler_package})")
     run(machine.compiler, "-O3", "-w", *machine.flags, "-ffunction-sections", "-fdata-sections", "-Wl,--gc-sections", *words, "-o", output)
 
 

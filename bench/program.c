@@ -1,7 +1,7 @@
 /* The program that is measured, on x86-64 Linux and on the emulated Cortex-M4 alike. It is compiled once for each lexer, with -DLIST=..
  *   program FILE REPEATS   List of the text, so many times: instructions of one pass = (those of 3 passes - those of 1) / 2
  *   program FILE dump      the records, a line each
- *   program FILE stack     bytes of stack that calls really used: see painted()
+ *   program FILE stack     bytes of stack that calls really used; with -DALL_CALLS also those of next and cut
  * A length is 64 bits wide on both machines, since the library has it so. */
 #include <stdint.h>
 #include <stdio.h>
@@ -11,30 +11,15 @@
 #define NAME(symbol) QUOTED(symbol)
 #define QUOTED(word) #word
 enum { TEXT = 65535, NUMBERS = 3 * TEXT, LANE = 65536 };
+
+typedef uint64_t list_function(const uint8_t *text, uint64_t length, uint32_t *list, uint64_t numbers);
+list_function LIST;
+
 static uint8_t text[TEXT + 1]; /* SQLite wants a 0 behind the text */
-static uint32_t list[NUMBERS];
 static uint64_t length;
+static uint32_t list[NUMBERS];
 
-uint64_t LIST(const uint8_t *, uint64_t, uint32_t *, uint64_t);
-uint32_t sqllex_next(const uint8_t *, uint64_t, uint64_t, uint64_t *);
-uint32_t sqllex_cut(const uint8_t *, uint64_t, uint64_t, uint64_t *);
-
-/* The calls whose stack is measured, behind pointers, so that a call that does nothing can stand in for each. */
-static uint64_t no_list(const uint8_t *t, uint64_t n, uint32_t *l, uint64_t c) { return 0; }
-static uint32_t no_call(const uint8_t *t, uint64_t n, uint64_t at, uint64_t *answer) { return 0; }
-static uint64_t (*volatile list_call)(const uint8_t *, uint64_t, uint32_t *, uint64_t) = LIST;
-static uint32_t (*volatile other_call)(const uint8_t *, uint64_t, uint64_t, uint64_t *);
-static uint64_t places[TEXT + 1], answer[4];
-static uint64_t place_count;
-
-static void list_once(void) { list_call(text, length, list, NUMBERS); }
-static void call_at_places(void)
-{
-    for (uint64_t i = 0; i < place_count; i++)
-        other_call(text, length, places[i], answer);
-}
-
-/* A stack of its own, filled with a pattern. */
+/* A stack of its own for the calls that are measured, filled with a pattern. */
 static uint8_t lane[LANE] __attribute__((aligned(64)));
 #ifdef __x86_64__
 enum { RETURN = 8 }; /* a call pushes its return address */
@@ -43,13 +28,14 @@ __attribute__((naked, noinline)) static void on_lane(void *top, void (*f)(void))
     __asm__("push %rbx\n mov %rsp, %rbx\n mov %rdi, %rsp\n call *%rsi\n mov %rbx, %rsp\n pop %rbx\n ret");
 }
 #else
-enum { RETURN = 0 }; /* a function that keeps it has it in its frame */
+enum { RETURN = 0 }; /* a function that keeps its return address has it in its frame */
 __attribute__((naked, noinline)) static void on_lane(void *top, void (*f)(void))
 {
     __asm__("push {r4, lr}\n mov r4, sp\n mov sp, r0\n blx r1\n mov sp, r4\n pop {r4, pc}");
 }
 #endif
 
+/* How deep the lane was written to. */
 static unsigned depth(void (*f)(void))
 {
     unsigned i = 0;
@@ -60,42 +46,56 @@ static unsigned depth(void (*f)(void))
     return LANE - i;
 }
 
-/* The deepest byte changed below a caller, less what the caller changes with a call that does nothing. */
-static unsigned painted_list(void)
+/* Calls go through a pointer, so that one that does nothing can stand in: what its caller takes is no part of the call's stack. */
+static uint64_t no_list(const uint8_t *t, uint64_t n, uint32_t *l, uint64_t c) { return 0; }
+static list_function *volatile list_call;
+static void list_once(void) { list_call(text, length, list, NUMBERS); }
+
+static unsigned list_stack(list_function *call)
 {
+    list_call = call;
     unsigned deep = depth(list_once);
     list_call = no_list;
-    deep = deep - depth(list_once) + RETURN;
-    list_call = LIST;
-    return deep;
+    return deep - depth(list_once) + RETURN;
 }
 
 #ifdef ALL_CALLS
-static unsigned painted_at_places(uint32_t (*call)(const uint8_t *, uint64_t, uint64_t, uint64_t *))
+enum { CUT = 101 };
+typedef uint32_t place_function(const uint8_t *text, uint64_t length, uint64_t offset, uint64_t *answer);
+place_function sqllex_next, sqllex_cut;
+
+static uint64_t places[TEXT + 1], place_count, answer[4];
+static uint32_t no_call(const uint8_t *t, uint64_t n, uint64_t at, uint64_t *a) { return 0; }
+static place_function *volatile place_call;
+static void call_at_places(void)
 {
-    other_call = call;
+    for (uint64_t i = 0; i < place_count; i++)
+        place_call(text, length, places[i], answer);
+}
+
+static unsigned place_stack(place_function *call)
+{
+    place_call = call;
     unsigned deep = depth(call_at_places);
-    other_call = no_call;
+    place_call = no_call;
     return deep - depth(call_at_places) + RETURN;
 }
-#endif
 
-static void stack(void)
+static void other_stacks(void)
 {
-    printf(NAME(LIST) " %u\n", painted_list());
-#ifdef ALL_CALLS
-    enum { CUT = 101 };
     uint64_t records = LIST(text, length, list, NUMBERS);
     for (place_count = 0; place_count < records; place_count++)
-        places[place_count] = list[3 * place_count + 1]; /* each token's start */
+        places[place_count] = list[3 * place_count + 1];
     places[place_count++] = length;
-    printf("sqllex_next %u\n", painted_at_places(sqllex_next));
+    printf("sqllex_next %u\n", place_stack(sqllex_next)); /* at each token and at the end */
     place_count = 0;
-    for (uint64_t at = 0; places[place_count++] = at, sqllex_cut(text, length, at, answer) == CUT; at = answer[3])
-        ; /* each statement's start */
-    printf("sqllex_cut %u\n", painted_at_places(sqllex_cut));
-#endif
+    for (uint64_t at = 0; places[place_count++] = at, sqllex_cut(text, length, at, answer) == CUT;)
+        at = answer[3];
+    printf("sqllex_cut %u\n", place_stack(sqllex_cut)); /* at each statement */
 }
+#else
+static void other_stacks(void) {}
+#endif
 
 int main(int argc, char **argv)
 {
@@ -104,7 +104,8 @@ int main(int argc, char **argv)
         return 2;
     length = fread(text, 1, TEXT, file);
     if (!strcmp(argv[2], "stack")) {
-        stack();
+        printf(NAME(LIST) " %u\n", list_stack(LIST));
+        other_stacks();
     } else if (!strcmp(argv[2], "dump")) {
         uint64_t records = LIST(text, length, list, NUMBERS);
         for (uint64_t i = 0; i < records; i++)
