@@ -9,7 +9,7 @@ from machines import HERE, M4, OUT, ROOT, X86, Missing, compile_c, need, run
 
 KIT = pathlib.Path(run("rt", "doc").strip()).parent.parent / "on" / os.uname().machine / "toolchain/bin"
 ARCHIVE, MODULE = ROOT / "target/staticlib/libcapi.a", OUT / "module.bc"
-RUST_TARGET, RUSTC_FOR_M4 = "x86_64-unknown-linux-gnu", OUT / "rustc/usr/bin/rustc"
+X86_TARGET, RUSTC_FOR_M4 = "x86_64-unknown-linux-gnu", OUT / "rustc/usr/bin/rustc"
 REAL_MEMCHR = pathlib.Path("/usr/share/cargo/registry/memchr-2.5.0/src/lib.rs")
 # bench/setup fetches the source, which is compiled for both machines; Debian's library is x86-64 code.
 SQLITE_SOURCE, SQLITE_LIBRARY = OUT / "sqlite", pathlib.Path("/usr/lib/x86_64-linux-gnu/libsqlite3.a")
@@ -26,18 +26,20 @@ def kit_flags(machine):
     return words + [f"--target={M4_TARGET}", "-mcpu=cortex-m4", "-mfloat-abi=soft", "-Wno-override-module"]
 
 
-def retarget(module):
-    """A module for x86-64 made one for the M4 by its head and attributes alone: its usize stays 64 bits wide. For measuring only."""
-    text = OUT / "retargeted.ll"
-    run(KIT / "clang", "-x", "ir", module, "-O0", "-Xclang", "-disable-llvm-passes", "-S", "-emit-llvm", "-Wno-override-module", "-o", text)
+def module_for_m4():
+    """The module for x86-64 made one for the M4 by its head and attributes alone: its usize stays 64 bits wide. For measuring only."""
+    text = OUT / "m4.ll"
+    as_it_is = ["-x", "ir", MODULE, "-O0", "-Xclang", "-disable-llvm-passes"]
+    run(KIT / "clang", f"--target={X86_TARGET}", *as_it_is, "-S", "-emit-llvm", "-o", text)
     code = re.sub(r"(?m)^target datalayout.*", f'target datalayout = "{M4_LAYOUT}"', text.read_text())
     code = re.sub(r"(?m)^target triple.*", f'target triple = "{M4_TARGET}"', code)
-    text.write_text(re.sub(r' "(probe-stack|target-cpu|target-features|tune-cpu)"="[^"]*"', "", code))
+    text.write_text(re.sub(r' "(probe-stack|target-cpu)"="[^"]*"', "", code))
     return text
 
 
-def compile_module(machine, module, output, *flags):
-    run(KIT / "clang", *kit_flags(machine), *(flags or ["-c"]), "-x", "ir", retarget(module) if machine is M4 else module, "-o", output)
+def compile_library(machine, output, *flags):
+    """The library's module, with the kit's clang."""
+    run(KIT / "clang", *kit_flags(machine), *(flags or ["-c"]), "-x", "ir", module_for_m4() if machine is M4 else MODULE, "-o", output)
     return output
 
 
@@ -47,7 +49,7 @@ def is_archives(file):
 
 
 def of_list(machine):
-    return [ARCHIVE if machine is X86 else compile_module(M4, MODULE, OUT / "capi.m4.o")]
+    return [ARCHIVE if machine is X86 else compile_library(M4, OUT / "capi.Cortex-M4.o")]
 
 
 @functools.cache
@@ -56,8 +58,8 @@ def rust(machine, folder, memchr, *flags):
         raise Missing("a compiler with its core library's source is not here (bench/setup unpacks one)")
     if machine is X86:
         need("rustc", "Rust's own installer has it; Debian's is too old")
-        if not pathlib.Path(run("rustc", "--print", "target-libdir", "--target", RUST_TARGET).strip()).exists():
-            raise Missing(f"rustc has no core library for {RUST_TARGET} (rustup target add {RUST_TARGET})")
+        if not pathlib.Path(run("rustc", "--print", "target-libdir", "--target", X86_TARGET).strip()).exists():
+            raise Missing(f"rustc has no core library for {X86_TARGET} (rustup target add {X86_TARGET})")
     run(HERE / "rust/build", OUT / folder, machine.name, memchr, *flags)
     return [OUT / folder / "liblist.a"]
 
@@ -78,7 +80,7 @@ def of_sqlite(machine):
         return ["-DFROM_SOURCE", "-I", SQLITE_SOURCE, "-I", SQLITE_SOURCE / "src", HERE / "sqlite.c"]
     if machine is X86 and SQLITE_LIBRARY.exists():
         return [HERE / "sqlite.c", SQLITE_LIBRARY, "-lm", "-ldl", "-lpthread"]
-    raise Missing("SQLite's source is not here (bench/setup fetches it)" + ("" if machine is M4 else ", nor its library (Debian: libsqlite3-dev)"))
+    raise Missing("SQLite's source is not here (bench/setup fetches it)" + (" nor libsqlite3-dev's library" if machine is X86 else ""))
 
 
 LEXERS = {  # the symbol of List, what is linked, flags of the measuring program

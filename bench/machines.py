@@ -28,7 +28,8 @@ def run(*words):
 
 class X86:
     name, compiler, emulator = "x86-64", "x86_64-linux-gnu-gcc", "qemu-x86_64"
-    compiler_package, emulator_package = "Debian: gcc and libc6-dev; on Arm gcc-x86-64-linux-gnu and libc6-dev-amd64-cross", "Debian: qemu-user"
+    compiler_package = "Debian: gcc and libc6-dev; on Arm gcc-x86-64-linux-gnu and libc6-dev-amd64-cross"
+    emulator_package = "Debian: qemu-user"
     library, flags, extra, nm = "libc.a", ["-static"], [], "x86_64-linux-gnu-nm"
     pushed = 8  # bytes that a call itself puts on the stack
 
@@ -39,7 +40,8 @@ class X86:
 
 class M4:
     name, compiler, emulator = "Cortex-M4", "arm-none-eabi-gcc", "qemu-system-arm"
-    compiler_package, emulator_package = "Debian: gcc-arm-none-eabi and libnewlib-arm-none-eabi", "Debian: qemu-system-arm"
+    compiler_package = "Debian: gcc-arm-none-eabi and libnewlib-arm-none-eabi"
+    emulator_package = "Debian: qemu-system-arm"
     flags = ["-mcpu=cortex-m4", "-mthumb", "-mfloat-abi=soft", "--specs=rdimon.specs", "-T", HERE / "m4.ld", "-Wl,--no-warn-execstack"]
     library, extra, nm = "rdimon.specs", [HERE / "m4.c"], "arm-none-eabi-nm"
     pushed = 0

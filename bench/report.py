@@ -4,7 +4,7 @@ import os
 import shutil
 import sys
 
-from lexers import KIT, MODULE, SQLITE_SOURCE, compile_module, is_archives
+from lexers import KIT, SQLITE_SOURCE, compile_library, is_archives
 from machines import M4, OUT, X86, Missing, run
 from space import linked, sizes, stacks
 from speed import growth, instructions, length, profile, same_lists, total
@@ -29,8 +29,9 @@ def versions():
         print(f"{os.path.basename(command)}: {run(command, '--version').splitlines()[0]}")
     for source in (OUT / "rustc/usr/src").glob("rustc-*"):
         print(f"the Rust for the Cortex-M4: {source.name}")
-    print(f"SQLite: {'source of ' + (SQLITE_SOURCE / 'VERSION').read_text().strip() if SQLITE_SOURCE.exists() else 'the installed library'}")
-    if not is_archives(compile_module(X86, MODULE, OUT / "again.o")):
+    version = SQLITE_SOURCE / "VERSION"
+    print("SQLite:", f"source of {version.read_text().strip()}" if version.exists() else "the installed library, if any")
+    if not is_archives(compile_library(X86, OUT / "again.o")):
         raise SystemExit("bench: FAIL: the kept module, compiled again, is not the object in the archive")
     print("the kept module, compiled again with the kit's flags, is the archive's object byte for byte")
 
@@ -57,7 +58,8 @@ def main():
     if worst is None:
         print("SKIPPED  instructions a byte, and growth: nothing was counted")
     else:
-        good &= test("List, instructions a byte of the text sync, x86-64", round(total(X86, "List", "sync") / length("sync"), 2), MOST_INSTRUCTIONS)
+        a_byte = total(X86, "List", "sync") / length("sync")
+        good &= test("List, instructions a byte of the text sync, x86-64", round(a_byte, 2), MOST_INSTRUCTIONS)
         good &= test("growth of List, percent from linear, x86-64", round(worst, 4), MOST_GROWTH)
     return 0 if good else 1
 

@@ -2,7 +2,7 @@
 import functools
 
 import graph
-from lexers import MODULE, compile_module, program
+from lexers import compile_library, program
 from machines import OUT, Missing, output_of
 from speed import KINDS_OF_TEXT, present, text
 
@@ -12,7 +12,7 @@ ENTRIES = "sqllex_next", "sqllex_list", "sqllex_list_from", "sqllex_cut"
 @functools.cache
 def functions(machine):
     """Of the library. Its archive has no stack sizes, so its module is compiled again, with the same flags, to assembly that has them."""
-    return graph.functions(compile_module(machine, MODULE, OUT / f"capi.{machine.name}.s", "-S", "-fstack-size-section"))
+    return graph.functions(compile_library(machine, OUT / f"capi.{machine.name}.s", "-S", "-fstack-size-section"))
 
 
 def painted(machine, lexer):
@@ -37,14 +37,14 @@ def stacks(machine):
     for entry in [*ENTRIES, *sorted(set(used) - set(ENTRIES))]:
         size, chain = bounds.get(entry, (None, []))
         figure = lambda n: f"{n:,}" if n else "-"
-        print(f"{entry:18} bound {figure(size):>5}  used {figure(used.get(entry)):>5}   {' > '.join(chain)}")
+        print(f"{entry:18} bound {figure(size):>5}  used {figure(used.get(entry)):>5}   {' > '.join(chain)}".rstrip())
     if unknown := graph.elsewhere(functions(machine)):
         print(f"not counted, since they are not in the library: {', '.join(sorted(unknown))}")
     return max(size for size, _ in bounds.values())
 
 
 def sizes(machine):
-    found, size = functions(machine), graph.sections(compile_module(machine, MODULE, OUT / f"capi.{machine.name}.o"))
+    found, size = functions(machine), graph.sections(compile_library(machine, OUT / f"capi.{machine.name}.o"))
     constants = sum(n for name, n in size.items() if name.startswith(".rodata"))
     code = lambda names: sum(size[".text." + name] for name in names)
     print(f"{'the library':42}{code(found) + constants:7,}")

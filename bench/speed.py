@@ -67,7 +67,7 @@ def instructions(machine, lexers):
             raise SystemExit(f"bench: FAIL: records of the text {name} differ between the two machines")
         a_byte = "".join(f"{total(machine, lexer, name) / length(name):10.2f}" for lexer in lexers)
         others = [f"{lexer}: {n:,} records" for lexer, n in numbers.items() if n != numbers[lexers[0]]]
-        print(f"{name:12}{numbers[lexers[0]]:8,}{a_byte}  {'; '.join(others)}")
+        print(f"{name:12}{numbers[lexers[0]]:8,}{a_byte}  {'; '.join(others)}".rstrip())
 
 
 def growth():
