@@ -28,7 +28,12 @@ def total(machine, lexer, name):
 
 @functools.cache
 def records(machine, lexer, name):
-    return output_of(machine, program(machine, lexer), text(name), "dump").splitlines()
+    """The list's lines. It must come to the text's end: a lexer that stops early would look cheap."""
+    lines = output_of(machine, program(machine, lexer), text(name), "dump").splitlines()
+    _, start, size = map(int, lines[-1].split())
+    if start + size != length(name):
+        raise SystemExit(f"bench: FAIL: {lexer} stopped at {start + size} in the text {name}")
+    return lines
 
 
 def with_names(lines, names):
@@ -75,6 +80,7 @@ def growth():
     worst = 0
     for times in 1, 2, 4:
         name = f"grow{times}"
+        records(X86, "List", name)
         here = total(X86, "List", name)
         percent = 100 * (here / (times * total(X86, "List", "grow1")) - 1)
         print(f"{length(name):7,} bytes {here:10,.0f} instructions {here / length(name):8.3f} a byte {percent:+8.4f} % from linear")
