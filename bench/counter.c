@@ -1,5 +1,5 @@
-/* A plugin for qemu that counts the instructions which a program runs, each at its address: nothing is timed, so the figures are the same
- * on every machine. At the end it writes 'address count' lines to the file in out=FILE.
+/* A plugin for qemu that counts the instructions which a program runs, each at its address: nothing is timed, so the figures do not
+ * depend on the host's speed. At the end it writes 'address count' lines to the file in out=FILE.
  * Debian's qemu 7.2 takes plugins but has no qemu-plugin.h, so the calls that are used are declared here (plugin interface, version 1). */
 #include <inttypes.h>
 #include <stdint.h>
