@@ -1,5 +1,5 @@
--- What the eaters answer, over the text that is left: for the contracts of private functions; that of `next` does not rest on it.
--- Assumes nothing.
+-- What the eaters answer, over the text that is left: `head` for the cursor's `peek`, the rest for the contracts of private functions;
+-- that of `next` does not rest on it. Assumes nothing.
 use Prim.Native.Nat.{ℕ, _+_}
 use mathlib.Core.Bool.{cond}
 use mathlib.Core.List.{List, [], _∷_}

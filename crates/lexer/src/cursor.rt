@@ -15,7 +15,7 @@ pub struct Cursor {
     pub at: usize,
 }
 
-pub(crate) enum Peek {
+pub enum Peek {
     Byte(u8),
     Nothing,
 }
@@ -27,7 +27,7 @@ pub(crate) enum Past {
 }
 
 impl Cursor {
-    pub(crate) fn peek(self, text: &[u8]) -> Peek
+    pub fn peek(self, text: &[u8]) -> Peek
         ensures { λ r. ⌜ r ≡ head (drop (self .at) (now (text .entry))) ⌝ }
     {
         let at = self.at;
