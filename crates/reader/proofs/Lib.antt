@@ -1,2 +1,3 @@
 pub mod ReaderLaws
 pub mod Held
+pub mod Pass
