@@ -1,3 +1,4 @@
 pub mod ReaderLaws
 pub mod Held
 pub mod Pass
+pub mod Theorems
