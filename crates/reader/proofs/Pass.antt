@@ -2,9 +2,9 @@
 -- every such method. All that the walk knows of the callee is that it meets its contract.
 --     passing τ f      the method's MIR: τ is the result's type, f the callee
 --     methodS, calleeS     the two signatures; method, callee      the two contracts: of the text, the offset and the result both say φ
---     pass-meets       where the callee meets its contract, the method meets its own
+--     pass-meets       where the callee meets its contract, the method meets its own, which is to say φ too
 -- `pass-meets` takes `Given`. The rest assumes nothing.
-use mathlib.Core.Path.{refl}
+use mathlib.Core.Path.{_≡_, refl, sym, subst}
 use Prim.Native.Nat.{ℕ}
 use mathlib.Core.List.{List, [], _∷_}
 use lib.Dec.{T as Holds}
@@ -131,7 +131,9 @@ module _ {M : Type 1} (𝓤 : URA M) (H : Heap 𝓤) (A : Atoms 𝓤) (W : Given
   pass-walks C Λ fm known = walked 𝓤 H A (methodS res) (stayed res) (method 𝓤 res φ) (WpFn 𝓤 H C Λ (passing τ f)) (λ κs. (LL.vals (D (κs .0)) (L (κs .0)), tt)) (λ κs. (LL.tells (D (κs .0)) (L (κs .0)), tt))
       (λ κs qs bounds a g are. via 𝓤 _ (fst∗ 𝓤 _ (emp 𝓤)) (walk 𝓤 H A W res φ (κs .0) (qs .0) (a .0) τ f typed C Λ fm known (LL.lawful (D (κs .0)) (L (κs .0)) 𝓤 H A W .typed (a .0) _ (are .0) .0)))
 
-  pub pass-meets : (𝓣 : Tables 𝓤 H) → Triple 𝓤 (𝓣 .C f) (Callee 𝓤 H A res φ)
-      → Meets 𝓤 H A (methodS res .signature) (WpFn 𝓤 H (𝓣 .C) (𝓣 .Λ) (passing τ f)) (closing 𝓤 H A (methodS res) (method 𝓤 res φ))
-  pass-meets 𝓣 known = walk-meets 𝓤 H A (methodS res) (stayed res) W (goes-none 𝓤 H A W 1 B yes (λ κs x f. refl), tt) (method 𝓤 res φ) (WpFn 𝓤 H (𝓣 .C) (𝓣 .Λ) (passing τ f)) (WpFn-mono 𝓤 H (W .laws) 𝓣 (passing τ f))
-      (pass-walks (𝓣 .C) (𝓣 .Λ) (fmOf 𝓤 H (W .laws) 𝓣) known)
+  pub pass-meets : (c : Clauses 𝓤 (methodS res)) → c ≡ method 𝓤 res φ → (𝓣 : Tables 𝓤 H) → Triple 𝓤 (𝓣 .C f) (Callee 𝓤 H A res φ)
+      → Meets 𝓤 H A (methodS res .signature) (WpFn 𝓤 H (𝓣 .C) (𝓣 .Λ) (passing τ f)) (closing 𝓤 H A (methodS res) c)
+  pass-meets c promised 𝓣 known =
+      subst (λ (k : Clauses 𝓤 (methodS res)). Meets 𝓤 H A (methodS res .signature) (WpFn 𝓤 H (𝓣 .C) (𝓣 .Λ) (passing τ f)) (closing 𝓤 H A (methodS res) k)) (sym promised)
+      (walk-meets 𝓤 H A (methodS res) (stayed res) W (goes-none 𝓤 H A W 1 B yes (λ κs x f. refl), tt) (method 𝓤 res φ) (WpFn 𝓤 H (𝓣 .C) (𝓣 .Λ) (passing τ f)) (WpFn-mono 𝓤 H (W .laws) 𝓣 (passing τ f))
+      (pass-walks (𝓣 .C) (𝓣 .Λ) (fmOf 𝓤 H (W .laws) 𝓣) known))

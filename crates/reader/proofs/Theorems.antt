@@ -82,9 +82,9 @@ walks-on d r a l x t = (first, subst₂ (λ (s : List ℕ) (at : ℕ). Tells s a
     first = t .0 (r .lexed) (x .answers)
 
     goes-there : (q : Lexed) → offset (valuesOf q) ≡ offsetOf q
-    goes-there (Token kind start length next) = refl
+    goes-there (Token k start n next) = refl
     goes-there (End next) = refl
-    goes-there (Refused why start length next) = refl
+    goes-there (Refused why start n next) = refl
 
     there : offset a ≡ r .reader .offset
     there = ap offset (sym first) ∙ goes-there (r .lexed) ∙ sym (x .goes-on)

@@ -1,5 +1,5 @@
 -- `reader::Reader::peek` meets its contract: it passes its fields on to `peek_at`. Assumes nothing.
-use mathlib.Core.Path.{_≡_}
+use mathlib.Core.Path.{_≡_, refl}
 use mathlib.Core.List.{[], _∷_}
 use lib.ListN.{drop}
 use contract.Running.{givenOf, tables, tablesOf}
@@ -26,5 +26,5 @@ peek-spec 𝓤 H 𝓜 𝓖 𝓡 =
     entered 𝓤 H (tripleOf 𝓤 H (𝓖 .A) peek.signature (peek.spec 𝓤 H (𝓖 .A) (𝓜 .mem) (𝓡 .run)))
     (tables 𝓤 H 𝓜 𝓡 code.env .C) (tables 𝓤 H 𝓜 𝓡 code.env .Λ) #reader·peek code.function (code.unfolded 𝓤 H 𝓜 𝓡)
     (pass-meets 𝓤 H (𝓖 .A) (givenOf 𝓤 H 𝓜 𝓖) (peek.signature .result) (λ κs text offset r. r ≡ head (drop offset (now text))) S′.mir #reader·peek-at
-    (λ κs r u is. EL.lawful S.the-type S′.the-laws 𝓤 H (𝓖 .A) (givenOf 𝓤 H 𝓜 𝓖) tt .typed r _ is .0) (tablesOf 𝓤 H 𝓜 (tables 𝓤 H 𝓜 𝓡 code.env))
+    (λ κs r u is. EL.lawful S.the-type S′.the-laws 𝓤 H (𝓖 .A) (givenOf 𝓤 H 𝓜 𝓖) tt .typed r _ is .0) (peek.clauses 𝓤 H (𝓖 .A) (𝓜 .mem) (𝓡 .run)) refl (tablesOf 𝓤 H 𝓜 (tables 𝓤 H 𝓜 𝓡 code.env))
     (cited 𝓤 H (tripleOf 𝓤 H (𝓖 .A) peek-at.signature (peek-at.spec 𝓤 H (𝓖 .A) (𝓜 .mem) (𝓡 .run))) 𝓜 𝓡 code.env #reader·peek-at peek-at-def.routine code.calls-reader·peek-at (peek-at-thm.met 𝓤 H 𝓜 𝓖 𝓡)))
