@@ -1,10 +1,11 @@
 -- A method of a reader that passes its two fields on to a covered function and gives what that gives: one walk of its MIR, by hand, for
 -- every such method. All that the walk knows of the callee is that it meets its contract.
 --     passing τ f      the method's MIR: τ is the result's type, f the callee
---     methodS, calleeS     the two signatures; method, callee      the two contracts: of the text, the offset and the result both say φ
---     pass-meets       where the callee meets its contract, the method meets its own, which is to say φ too
+--     methodS, calleeS     the two signatures.        callee     the callee's contract: it says φ of the text, the offset and the result
+--     promising p      a contract of the method, with no `requires`
+--     pass-meets       where the callee meets its contract, the method meets the one that says φ of its fields and the result
 -- `pass-meets` takes `Given`. The rest assumes nothing.
-use mathlib.Core.Path.{_≡_, refl, sym, subst}
+use mathlib.Core.Path.{_≡_, refl, subst}
 use Prim.Native.Nat.{ℕ}
 use mathlib.Core.List.{List, [], _∷_}
 use lib.Dec.{T as Holds}
@@ -31,11 +32,11 @@ use denote.Steps.{peeks, heard, nothing}
 use denote.Struct.Laws as LL
 use denote.Triple.Statement.{Contract, Triple}
 use denote.Triple.Call.{calls-at}
-use denote.Triple.Entry.{onEntry}
+use denote.Triple.Entry.{Args, Res, onEntry}
 use denote.Triple.Spec.{Meets, tripleOf}
 use denote.Triple.Walked.{says, Stays, stay-none, walkOf, goes-none, Walks, ends-at, walked, walk-meets}
 use denote.Exit.{yes}
-use denote.Triple.Clauses.{Clauses, Ended, closing, ensured, lasts}
+use denote.Triple.Clauses.{AtExit, Clauses, Ended, closing, ensured, lasts}
 use Rattle.reader.specs.declared.Reader.{Reader}
 use Rattle.reader.proofs.Reader.Laws as T′
 use Rattle.reader.proofs.Held.{B, D, L, Own, passed, apart}
@@ -61,9 +62,16 @@ calleeS res = record {
 abbrev Fact : Slot 1 → Type 1
 Fact res = (κs : Lfts 1) → RefT (List ℕ) → ℕ → res .row κs .Denot → Type 0
 
+module _ {M : Type 1} (𝓤 : URA M) (res : Slot 1) where
+  abbrev Promise : Type 2
+  Promise = (κs : Lfts 1) → Args (methodS res .signature) κs → Res (methodS res .signature) κs → AtExit (methodS res) κs → SProp 𝓤
+
+  abbrev pub promising : Promise → Clauses 𝓤 (methodS res)
+  promising p κs a = record { ghost = Unit {0}; requires = λ g. emp 𝓤; ensures = λ g. p κs a }
+
 module _ {M : Type 1} (𝓤 : URA M) (res : Slot 1) (φ : Fact res) where
-  abbrev pub method : Clauses 𝓤 (methodS res)
-  method κs a = record { ghost = Unit {0}; requires = λ g. emp 𝓤; ensures = λ g r e. fact 𝓤 (φ κs (a .0 .text) (a .0 .offset) r) }
+  abbrev method : Clauses 𝓤 (methodS res)
+  method = promising 𝓤 res (λ κs a r e. fact 𝓤 (φ κs (a .0 .text) (a .0 .offset) r))
 
   abbrev pub callee : Clauses 𝓤 (calleeS res)
   callee κs a = record { ghost = Unit {0}; requires = λ g. emp 𝓤; ensures = λ g r e. fact 𝓤 (φ κs (a .0) (a .1 .0) r) }
@@ -131,9 +139,10 @@ module _ {M : Type 1} (𝓤 : URA M) (H : Heap 𝓤) (A : Atoms 𝓤) (W : Given
   pass-walks C Λ fm known = walked 𝓤 H A (methodS res) (stayed res) (method 𝓤 res φ) (WpFn 𝓤 H C Λ (passing τ f)) (λ κs. (LL.vals (D (κs .0)) (L (κs .0)), tt)) (λ κs. (LL.tells (D (κs .0)) (L (κs .0)), tt))
       (λ κs qs bounds a g are. via 𝓤 _ (fst∗ 𝓤 _ (emp 𝓤)) (walk 𝓤 H A W res φ (κs .0) (qs .0) (a .0) τ f typed C Λ fm known (LL.lawful (D (κs .0)) (L (κs .0)) 𝓤 H A W .typed (a .0) _ (are .0) .0)))
 
-  pub pass-meets : (c : Clauses 𝓤 (methodS res)) → c ≡ method 𝓤 res φ → (𝓣 : Tables 𝓤 H) → Triple 𝓤 (𝓣 .C f) (Callee 𝓤 H A res φ)
-      → Meets 𝓤 H A (methodS res .signature) (WpFn 𝓤 H (𝓣 .C) (𝓣 .Λ) (passing τ f)) (closing 𝓤 H A (methodS res) c)
-  pass-meets c promised 𝓣 known =
-      subst (λ (k : Clauses 𝓤 (methodS res)). Meets 𝓤 H A (methodS res .signature) (WpFn 𝓤 H (𝓣 .C) (𝓣 .Λ) (passing τ f)) (closing 𝓤 H A (methodS res) k)) (sym promised)
+  pub pass-meets : (p : Promise 𝓤 res) → ((κs : Lfts 1) (a : Args (methodS res .signature) κs) (r : Res (methodS res .signature) κs) (e : AtExit (methodS res) κs) → fact 𝓤 (φ κs (a .0 .text) (a .0 .offset) r) ≡ p κs a r e)
+      → (𝓣 : Tables 𝓤 H) → Triple 𝓤 (𝓣 .C f) (Callee 𝓤 H A res φ)
+      → Meets 𝓤 H A (methodS res .signature) (WpFn 𝓤 H (𝓣 .C) (𝓣 .Λ) (passing τ f)) (closing 𝓤 H A (methodS res) (promising 𝓤 res p))
+  pass-meets p promised 𝓣 known =
+      subst (λ (c : Clauses 𝓤 (methodS res)). Meets 𝓤 H A (methodS res .signature) (WpFn 𝓤 H (𝓣 .C) (𝓣 .Λ) (passing τ f)) (closing 𝓤 H A (methodS res) c)) (λ i. promising 𝓤 res (λ κs a r e. promised κs a r e i))
       (walk-meets 𝓤 H A (methodS res) (stayed res) W (goes-none 𝓤 H A W 1 B yes (λ κs x f. refl), tt) (method 𝓤 res φ) (WpFn 𝓤 H (𝓣 .C) (𝓣 .Λ) (passing τ f)) (WpFn-mono 𝓤 H (W .laws) 𝓣 (passing τ f))
       (pass-walks (𝓣 .C) (𝓣 .Λ) (fmOf 𝓤 H (W .laws) 𝓣) known))
