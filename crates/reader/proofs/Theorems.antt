@@ -11,7 +11,6 @@ use denote.Ref.{RefT, ptr, now}
 use Rattle.grammar.specs.Answers.{Answer, refusal}
 use Rattle.grammar.specs.Texts.{offset}
 use Rattle.lexer.specs.declared.cursor.Cursor.{Cursor}
-use Rattle.lexer.specs.declared.cursor.Peek.{Peek}
 use Rattle.lexer.specs.declared.cursor.Peek.the-variants.{Nothing}
 use Rattle.lexer.specs.declared.lexed.Lexed.{Lexed}
 use Rattle.lexer.specs.declared.lexed.Lexed.the-variants.{Token, End, Refused}

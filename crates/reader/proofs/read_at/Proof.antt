@@ -41,7 +41,6 @@ use denote.Triple.Table.{entered, cited}
 use denote.Triple.Walked.{says, Stays, stay-none, stay-none-slice, walkOf, goes-none, goes-none-slice, Walks, ends-at, walked, walk-meets}
 use denote.Exit.{yes}
 use denote.Triple.Clauses.{ensured, lasts}
-use Rattle.lexer.specs.Values.{Lexes}
 use Rattle.lexer.proofs.lexed.Lexed as S
 use Rattle.lexer.proofs.lexed.Lexed.Laws as S′
 use Rattle.reader.specs.declared.Reader.{Reader}

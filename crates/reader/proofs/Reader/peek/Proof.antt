@@ -1,6 +1,5 @@
 -- `reader::Reader::peek` meets its contract: it passes its fields on to `peek_at`. Assumes nothing.
 use mathlib.Core.Path.{_≡_, refl}
-use mathlib.Core.List.{[], _∷_}
 use lib.ListN.{drop}
 use contract.Running.{givenOf, tables, tablesOf}
 use denote.Ref.{now}
