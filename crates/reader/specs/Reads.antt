@@ -20,13 +20,13 @@ pub record Remains (text : RefT (List ℕ)) (offset : ℕ) (r : RefT (List ℕ))
   pub block : ptr r .0 ≡ ptr text .0
   pub ends : ptr r .1 + length (now r) ≡ ptr text .1 + length (now text)
 
--- where lexing goes on after an answer
+-- the offset that an answer leaves
 abbrev pub offsetOf : Lexed → ℕ
 offsetOf (Token kind start length next) = next .at
 offsetOf (End next) = next .at
 offsetOf (Refused why start length next) = next .at
 
--- what `next` gives for a reader: the answer of document 01 at its offset, and a reader of the same text where that answer goes on
+-- what `next` gives for a reader: the answer of document 01 at its offset, and a reader of the same text at the offset that it leaves
 pub record Reads (reader : Reader) (r : Read) : Type 0 where
   pub answers : Lexes (now (reader .text)) (reader .offset) (r .lexed)
   pub same-text : r .reader .text ≡ reader .text

@@ -15,7 +15,7 @@ pub struct Reader<'a> {
     pub offset: usize,
 }
 
-// What `next` gives: the answer, and the reader where lexing goes on.
+// What `next` gives: the answer, and the reader at the offset that the answer leaves.
 pub struct Read<'a> {
     pub lexed: Lexed,
     pub reader: Reader<'a>,
@@ -79,7 +79,7 @@ fn peek_at(text: &[u8], offset: usize) -> Peek
     Cursor { at: offset }.peek(text)
 }
 
-// An answer, and where lexing goes on.
+// An answer, and the offset that it leaves.
 struct Moved {
     lexed: Lexed,
     offset: usize,
