@@ -1,5 +1,5 @@
-//! Stands in for the crate `turso_macros` where speed counts. The published macro makes nested matches, one byte after the other, and so
-//! does this one; the oracle's stand-in compares with each arm in turn.
+//! Stands in for the crate `turso_macros` where speed counts: it makes nested matches, one byte after the other. The oracle's stand-in
+//! compares with each arm in turn.
 extern crate proc_macro;
 use proc_macro::{Delimiter, Group, TokenStream, TokenTree};
 use std::collections::BTreeMap;
