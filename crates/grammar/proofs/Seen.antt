@@ -57,6 +57,9 @@ pub moved-up : (s : List ℕ) (at d : ℕ) → d ≡ moved at s → at ≤ d
 unfolding moved
 moved-up s at d e = omega arith
 
+pub moved-twice : (s : List ℕ) (at d e : ℕ) → d ≡ moved at s → e ≡ moved d s → at ≤ e
+moved-twice s at d e f g = omega (arith, moved-up s at d f, moved-up s d e g)
+
 pub moved-end : (s : List ℕ) (at : ℕ) → drop at s ≡ [] → moved at s ≡ at
 unfolding moved
 moved-end s at e = rw (e, add-zero)
@@ -80,6 +83,9 @@ over-stops t s at d e = rw (e, ← drop-drop (runLength t (drop at s)) at s) (ru
 pub over-on : (t : Set) (s : List ℕ) (at d : ℕ) → d ≡ over t at s → at ≤ d
 unfolding over
 over-on t s at d e = omega arith
+
+pub moved-over : (t : Set) (s : List ℕ) (at d e : ℕ) → d ≡ moved at s → e ≡ over t d s → at ≤ e
+moved-over t s at d e f g = omega (arith, moved-up s at d f, over-on t s d e g)
 
 -- Every byte of t is one of u.
 abbrev pub inside : Set → Set → Bool

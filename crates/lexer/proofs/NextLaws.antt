@@ -17,7 +17,6 @@ use Rattle.grammar.specs.Form.{Set, none, D, S, blank, byte, no, _or_, holds}
 use Rattle.grammar.specs.Classes.{operators, U}
 use Rattle.grammar.specs.Runs.{sees}
 use Rattle.grammar.proofs.Seen.{inside-holds, misses-none, moved-one}
-use Rattle.grammar.proofs.Reading.{spelled-first}
 use Rattle.lexer.specs.declared.cursor.Peek.the-variants.{Byte, Nothing}
 use Rattle.lexer.specs.declared.lexed.Refusal.the-variants.{OffsetPastEnd}
 use Rattle.lexer.specs.declared.lexed.Lexed.{Lexed}
@@ -26,7 +25,7 @@ use Rattle.lexer.specs.Eaten.{cursor, head}
 use Rattle.grammar.proofs.Places.{At}
 use Rattle.lexer.specs.Values.{Lexes}
 use Rattle.lexer.proofs.EatLaws.{head-sees}
-use Rattle.lexer.proofs.OperatorLaws.{follow, isOperator, isColon, operator-lexed}
+use Rattle.lexer.proofs.OperatorLaws.{follow, isOperator, isColon, one-lexed}
 
 -- past the end, and at the end
 pub past-lexed : (s : List ℕ) (at : ℕ) → length s < at → Lexes s at (Refused OffsetPastEnd 0 0 (cursor at))
@@ -52,13 +51,14 @@ unfolding sees
 byte-in t b [] h e = absurd (true≢false (sym h))
 byte-in t b (x ∷ l) h e = rw (eqb-true x b h) e
 
--- operators of one byte that nothing makes longer
-pub single-lexed : (b : ℕ) (s : List ℕ) (at : ℕ) → At (byte b) at s → isColon (b ∷ []) ≡ false → isOperator (b ∷ []) operators ≡ true
-    → follow (b ∷ []) ≡ none
-    → (r : Lexed) → r ≡ Token (kindIn operators (b ∷ [])) at 1 (cursor (at + 1)) → Lexes s at r
-single-lexed b s at h n o f r e =
+-- an operator of one byte that nothing makes longer, at the byte of an arm
+pub key-lexed : (k b : ℕ) (s : List ℕ) (at : ℕ) → At (byte b) at s → b ≡ k
+    → isColon (k ∷ []) ≡ false → isOperator (k ∷ []) operators ≡ true → follow (k ∷ []) ≡ none
+    → (r : Lexed) → r ≡ Token (kindIn operators (k ∷ [])) at 1 (cursor (at + 1)) → Lexes s at r
+key-lexed k b s at h e n o f r q =
+    let seen = key-seen k b (drop at s) h e in
     let d : 1 ≡ at + 1 - at = omega arith in
-    operator-lexed (spelled-first b s at h (sym (moved-one (byte b) s at h))) n o (rw f (misses-none _)) r (e ∙ rw (← d))
+    one-lexed k s at seen (sym (moved-one (byte k) s at seen)) n o (rw f (misses-none _)) r (q ∙ rw (← d))
 
 -- a byte is none of these
 abbrev Apart : ℕ → List ℕ → Type 0

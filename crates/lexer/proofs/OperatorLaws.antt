@@ -13,7 +13,7 @@ use Rattle.keywords.specs.Words.{Entry, same, kindIn}
 use Rattle.keywords.proofs.SameLaws.{same-true}
 use Rattle.keywords.proofs.Logic.{split, and-left, and-right, every}
 use Rattle.words.specs.Bytes.{isDigit, isHexdigit, isIdentifierStart, isIdentifierContinue, isBlank}
-use Rattle.grammar.specs.Form.{Set, none, D, blank, no, _or_}
+use Rattle.grammar.specs.Form.{Set, none, D, blank, byte, no, _or_}
 use Rattle.grammar.specs.Classes.{operators, rules}
 use Rattle.grammar.specs.Answers.{answer}
 use Rattle.grammar.specs.Runs.{char, sees, moved, over}
@@ -22,7 +22,7 @@ use Rattle.grammar.proofs.Seen.{moved-end, over-stops, at-end, misses-none, ins
 use Rattle.grammar.proofs.Walk.{goes, along}
 use Rattle.grammar.proofs.RulePlaces.{blankRunRule, closedLineRule, openLineRule, closedBlockRule, openBlockRule, operatorRule, bangRule}
 use Rattle.grammar.proofs.Reading.{Reads, Ends, Spelled, behind, begin, reads-eat, reads-while, reads-join, reads-stop}
-use Rattle.grammar.proofs.Reading.{spelled-reads, spelled-part, reads-end}
+use Rattle.grammar.proofs.Reading.{spelled-first, spelled-more, spelled-reads, spelled-part, reads-end}
 use Rattle.lexer.specs.declared.lexed.Lexed.{Lexed}
 use Rattle.lexer.specs.declared.lexed.Lexed.the-variants.{Token, Refused}
 use Rattle.lexer.specs.declared.lexed.Refusal.the-variants.{ExpectedEqualsSign}
@@ -110,6 +110,17 @@ module _ {s : List ℕ} {from at : ℕ} {w : List ℕ} (p : Spelled s from at w)
   pub operator-lexed : (r : Lexed) → r ≡ Token (kindIn operators w) from (at - from) (cursor at) → Lexes s from r
   unfolding rules answer
   operator-lexed r e = token-lexes operator-ends (kindIn operators w) r (rw (spelled-part p)) e
+
+-- of one byte, and of two that nothing makes longer
+module _ (b : ℕ) (s : List ℕ) (from : ℕ) (h : At (byte b) from s) {at : ℕ} (f : at ≡ moved from s) where
+  pub one-lexed : isColon (b ∷ []) ≡ false → isOperator (b ∷ []) operators ≡ true → sees (follow (b ∷ [])) (drop at s) ≡ false
+      → (r : Lexed) → r ≡ Token (kindIn operators (b ∷ [])) from (at - from) (cursor at) → Lexes s from r
+  one-lexed n o m r q = operator-lexed (spelled-first b s from h f) n o m r q
+
+  pub two-lexed : (d : ℕ) → sees (byte d) (drop at s) ≡ true → {e : ℕ} → e ≡ moved at s
+      → isColon (b ∷ d ∷ []) ≡ false → isOperator (b ∷ d ∷ []) operators ≡ true → follow (b ∷ d ∷ []) ≡ none
+      → (r : Lexed) → r ≡ Token (kindIn operators (b ∷ d ∷ [])) from (e - from) (cursor e) → Lexes s from r
+  two-lexed d i g n o z r q = operator-lexed (spelled-more (spelled-first b s from h f) d i g) n o (rw z (misses-none _)) r q
 
 -- `--` to and with the newline, or to the end
 module _ {s : List ℕ} {from at : ℕ} (p : Spelled s from at (bytes "--")) {stop e : ℕ} (f : stop ≡ over (no (char "\n")) at s) (g : e ≡ moved stop s) where

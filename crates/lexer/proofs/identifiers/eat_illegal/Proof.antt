@@ -1,7 +1,6 @@
 -- `lexer::identifiers::eat_illegal` meets its contract. Assumes nothing.
-use native.Mathlib.Omega.{arith}
 use borrow.Author.Needs.{needs}
-use Rattle.grammar.proofs.Seen.{moved-up, over-on}
+use Rattle.grammar.proofs.Seen.{moved-over}
 use Rattle.grammar.proofs.Reading.{spelled-first}
 use Rattle.lexer.proofs.IdentifierLaws.{illegal-lexed}
 use Rattle.lexer.proofs.identifiers.eat_illegal.Statement.{statement}
@@ -14,10 +13,7 @@ eat-while-continue-requires : tie.Need-eat-while-continue-requires
 eat-while-continue-requires c κs = search needs
 
 token-requires : tie.Need-token-requires
-token-requires c κs =
-    let eat-while-continue = c .eat-while-continue in
-    let eat = c .before .eat in
-    omega (arith, moved-up _ _ _ (eat .ensures), over-on _ _ _ _ (eat-while-continue .ensures))
+token-requires c κs = moved-over _ _ _ _ _ (c .before .eat .ensures) (c .eat-while-continue .ensures)
 
 returns : tie.Need-returns
 returns c =

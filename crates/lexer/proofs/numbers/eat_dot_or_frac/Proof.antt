@@ -1,12 +1,10 @@
 -- `lexer::numbers::eat_dot_or_frac` meets its contract. Assumes nothing.
-use native.Mathlib.Omega.{arith}
 use mathlib.Core.Path.{_∙_, refl, sym}
 use borrow.Author.Needs.{needs}
 use Rattle.grammar.specs.Classes.{operators}
 use Rattle.grammar.proofs.Seen.{moved-up}
-use Rattle.grammar.proofs.Reading.{spelled-first}
 use Rattle.lexer.proofs.FractionLaws.{first-fraction}
-use Rattle.lexer.proofs.OperatorLaws.{follow, isOperator, operator-lexed}
+use Rattle.lexer.proofs.OperatorLaws.{follow, isOperator, one-lexed}
 use Rattle.lexer.proofs.numbers.eat_dot_or_frac.Statement.{statement}
 use Rattle.lexer.proofs.numbers.eat_dot_or_frac.Tie as tie
 
@@ -28,7 +26,7 @@ returns : tie.Need-returns
 returns c = c .eat-frac .ensures
 
 token-requires : tie.Need-token-requires
-token-requires c κs = omega (arith, moved-up _ _ _ (c .before .before .eat .ensures))
+token-requires c κs = moved-up _ _ _ (c .before .before .eat .ensures)
 
 returns-2 : tie.Need-returns-2
 unfolding follow isOperator operators
@@ -38,8 +36,7 @@ returns-2 c =
     let sees-digit = c .before .before .sees-digit in
     let eat = c .before .before .before .eat in
     let pre = c .before .before .before .before .before .pre in
-    let one = spelled-first 46 _ _ pre (eat .ensures) in
-    operator-lexed one refl refl (sym (sees-digit .ensures) ∙ if1 .left) _ (token .ensures)
+    one-lexed 46 _ _ pre (eat .ensures) refl refl (sym (sees-digit .ensures) ∙ if1 .left) _ (token .ensures)
 
 pub eat-dot-or-frac-spec : {M : Type 1} → statement M
 eat-dot-or-frac-spec =

@@ -1,11 +1,10 @@
 -- `lexer::operators::eat_array_contains_or_var` meets its contract. Assumes nothing.
-use native.Mathlib.Omega.{arith}
 use mathlib.Core.Path.{_∙_, refl, sym}
 use borrow.Author.Needs.{needs}
 use Rattle.grammar.specs.Classes.{operators}
-use Rattle.grammar.proofs.Seen.{misses-none, moved-up}
-use Rattle.grammar.proofs.Reading.{spelled-first, spelled-more}
-use Rattle.lexer.proofs.OperatorLaws.{follow, isOperator, operator-lexed}
+use Rattle.grammar.proofs.Seen.{moved-twice}
+use Rattle.grammar.proofs.Reading.{spelled-first}
+use Rattle.lexer.proofs.OperatorLaws.{follow, isOperator, two-lexed}
 use Rattle.lexer.proofs.ParameterLaws.{at-reads}
 use Rattle.lexer.proofs.operators.eat_array_contains_or_var.Statement.{statement}
 use Rattle.lexer.proofs.operators.eat_array_contains_or_var.Tie as tie
@@ -20,10 +19,7 @@ eat-requires-2 : tie.Need-eat-requires-2
 eat-requires-2 c κs = search needs
 
 token-requires : tie.Need-token-requires
-token-requires c κs =
-    let eat2 = c .eat2 in
-    let eat = c .before .before .before .eat in
-    omega (arith, moved-up _ _ _ (eat .ensures), moved-up _ _ _ (eat2 .ensures))
+token-requires c κs = moved-twice _ _ _ _ (c .before .before .before .eat .ensures) (c .eat2 .ensures)
 
 returns : tie.Need-returns
 unfolding follow isOperator operators
@@ -34,9 +30,7 @@ returns c =
     let sees = c .before .before .before .sees in
     let eat = c .before .before .before .before .eat in
     let pre = c .before .before .before .before .before .before .pre in
-    let one = spelled-first 64 _ _ pre (eat .ensures) in
-    let two = spelled-more one 62 (sym (sees .ensures) ∙ if1 .taken) (eat2 .ensures) in
-    operator-lexed two refl refl (misses-none _) _ (token .ensures)
+    two-lexed 64 _ _ pre (eat .ensures) 62 (sym (sees .ensures) ∙ if1 .taken) (eat2 .ensures) refl refl refl _ (token .ensures)
 
 eat-named-var-requires : tie.Need-eat-named-var-requires
 eat-named-var-requires c κs =

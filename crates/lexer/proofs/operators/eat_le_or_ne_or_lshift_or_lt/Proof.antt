@@ -1,11 +1,9 @@
 -- `lexer::operators::eat_le_or_ne_or_lshift_or_lt` meets its contract. Assumes nothing.
-use native.Mathlib.Omega.{arith}
 use mathlib.Core.Path.{_∙_, refl, sym}
 use borrow.Author.Needs.{needs}
 use Rattle.grammar.specs.Classes.{operators}
-use Rattle.grammar.proofs.Seen.{misses-none, misses-or, moved-up}
-use Rattle.grammar.proofs.Reading.{spelled-first, spelled-more}
-use Rattle.lexer.proofs.OperatorLaws.{follow, isOperator, operator-lexed}
+use Rattle.grammar.proofs.Seen.{misses-or, moved-twice, moved-up}
+use Rattle.lexer.proofs.OperatorLaws.{follow, isOperator, one-lexed, two-lexed}
 use Rattle.lexer.proofs.operators.eat_le_or_ne_or_lshift_or_lt.Statement.{statement}
 use Rattle.lexer.proofs.operators.eat_le_or_ne_or_lshift_or_lt.Tie as tie
 
@@ -19,10 +17,7 @@ eat-requires-2 : tie.Need-eat-requires-2
 eat-requires-2 c κs = search needs
 
 token-requires : tie.Need-token-requires
-token-requires c κs =
-    let eat2 = c .eat2 in
-    let eat = c .before .before .before .eat in
-    omega (arith, moved-up _ _ _ (eat .ensures), moved-up _ _ _ (eat2 .ensures))
+token-requires c κs = moved-twice _ _ _ _ (c .before .before .before .eat .ensures) (c .eat2 .ensures)
 
 returns : tie.Need-returns
 unfolding follow isOperator operators
@@ -33,9 +28,7 @@ returns c =
     let sees = c .before .before .before .sees in
     let eat = c .before .before .before .before .eat in
     let pre = c .before .before .before .before .before .before .pre in
-    let one = spelled-first 60 _ _ (pre) (eat .ensures) in
-    let two = spelled-more one 61 (sym (sees .ensures) ∙ if1 .taken) (eat2 .ensures) in
-    operator-lexed two refl refl (misses-none _) _ (token .ensures)
+    two-lexed 60 _ _ pre (eat .ensures) 61 (sym (sees .ensures) ∙ if1 .taken) (eat2 .ensures) refl refl refl _ (token .ensures)
 
 sees-requires-2 : tie.Need-sees-requires-2
 sees-requires-2 c κs = search needs
@@ -44,10 +37,7 @@ eat-requires-3 : tie.Need-eat-requires-3
 eat-requires-3 c κs = search needs
 
 token-requires-2 : tie.Need-token-requires-2
-token-requires-2 c κs =
-    let eat3 = c .eat3 in
-    let eat = c .before .before .before .before .before .eat in
-    omega (arith, moved-up _ _ _ (eat .ensures), moved-up _ _ _ (eat3 .ensures))
+token-requires-2 c κs = moved-twice _ _ _ _ (c .before .before .before .before .before .eat .ensures) (c .eat3 .ensures)
 
 returns-2 : tie.Need-returns-2
 unfolding follow isOperator operators
@@ -58,9 +48,7 @@ returns-2 c =
     let sees2 = c .before .before .before .sees2 in
     let eat = c .before .before .before .before .before .before .eat in
     let pre = c .before .before .before .before .before .before .before .before .pre in
-    let one = spelled-first 60 _ _ (pre) (eat .ensures) in
-    let two = spelled-more one 60 (sym (sees2 .ensures) ∙ if2 .taken) (eat3 .ensures) in
-    operator-lexed two refl refl (misses-none _) _ (token2 .ensures)
+    two-lexed 60 _ _ pre (eat .ensures) 60 (sym (sees2 .ensures) ∙ if2 .taken) (eat3 .ensures) refl refl refl _ (token2 .ensures)
 
 sees-requires-3 : tie.Need-sees-requires-3
 sees-requires-3 c κs = search needs
@@ -69,10 +57,7 @@ eat-requires-4 : tie.Need-eat-requires-4
 eat-requires-4 c κs = search needs
 
 token-requires-3 : tie.Need-token-requires-3
-token-requires-3 c κs =
-    let eat4 = c .eat4 in
-    let eat = c .before .before .before .before .before .before .before .eat in
-    omega (arith, moved-up _ _ _ (eat .ensures), moved-up _ _ _ (eat4 .ensures))
+token-requires-3 c κs = moved-twice _ _ _ _ (c .before .before .before .before .before .before .before .eat .ensures) (c .eat4 .ensures)
 
 returns-3 : tie.Need-returns-3
 unfolding follow isOperator operators
@@ -83,12 +68,10 @@ returns-3 c =
     let sees3 = c .before .before .before .sees3 in
     let eat = c .before .before .before .before .before .before .before .before .eat in
     let pre = c .before .before .before .before .before .before .before .before .before .before .pre in
-    let one = spelled-first 60 _ _ (pre) (eat .ensures) in
-    let two = spelled-more one 62 (sym (sees3 .ensures) ∙ if3 .taken) (eat4 .ensures) in
-    operator-lexed two refl refl (misses-none _) _ (token3 .ensures)
+    two-lexed 60 _ _ pre (eat .ensures) 62 (sym (sees3 .ensures) ∙ if3 .taken) (eat4 .ensures) refl refl refl _ (token3 .ensures)
 
 token-requires-4 : tie.Need-token-requires-4
-token-requires-4 c κs = omega (arith, moved-up _ _ _ (c .before .before .before .before .before .before .eat .ensures))
+token-requires-4 c κs = moved-up _ _ _ (c .before .before .before .before .before .before .eat .ensures)
 
 returns-4 : tie.Need-returns-4
 unfolding follow isOperator operators
@@ -102,9 +85,8 @@ returns-4 c =
     let sees = c .before .before .before .before .before .before .sees in
     let eat = c .before .before .before .before .before .before .before .eat in
     let pre = c .before .before .before .before .before .before .before .before .before .pre in
-    let one = spelled-first 60 _ _ (pre) (eat .ensures) in
     let missed = misses-or _ _ _ (sym (sees .ensures) ∙ if1 .left) (misses-or _ _ _ (sym (sees2 .ensures) ∙ if2 .left) (sym (sees3 .ensures) ∙ if3 .left)) in
-    operator-lexed one refl refl missed _ (token4 .ensures)
+    one-lexed 60 _ _ pre (eat .ensures) refl refl missed _ (token4 .ensures)
 
 pub eat-le-or-ne-or-lshift-or-lt-spec : {M : Type 1} → statement M
 eat-le-or-ne-or-lshift-or-lt-spec =

@@ -3,9 +3,9 @@ use native.Mathlib.Omega.{arith}
 use mathlib.Core.Path.{_∙_, refl, sym}
 use borrow.Author.Needs.{needs}
 use Rattle.grammar.specs.Classes.{operators}
-use Rattle.grammar.proofs.Seen.{misses-none, misses-or, moved-up, over-on}
+use Rattle.grammar.proofs.Seen.{misses-none, misses-or, moved-twice, moved-up, over-on}
 use Rattle.grammar.proofs.Reading.{spelled-first, spelled-more}
-use Rattle.lexer.proofs.OperatorLaws.{follow, isOperator, line-lexed, operator-lexed}
+use Rattle.lexer.proofs.OperatorLaws.{follow, isOperator, line-lexed, one-lexed, operator-lexed}
 use Rattle.lexer.proofs.operators.eat_minus_or_comment_or_ptr.Statement.{statement}
 use Rattle.lexer.proofs.operators.eat_minus_or_comment_or_ptr.Tie as tie
 
@@ -42,7 +42,7 @@ returns c =
     let sees = c .before .before .before .before .before .sees in
     let eat = c .before .before .before .before .before .before .eat in
     let pre = c .before .before .before .before .before .before .before .before .pre in
-    let one = spelled-first 45 _ _ (pre) (eat .ensures) in
+    let one = spelled-first 45 _ _ pre (eat .ensures) in
     let two = spelled-more one 45 (sym (sees .ensures) ∙ if1 .taken) (eat2 .ensures) in
     line-lexed two (eat-until .ensures) (eat3 .ensures) _ (token .ensures)
 
@@ -77,16 +77,13 @@ returns-2 c =
     let sees2 = c .before .before .before .before .before .before .sees2 in
     let eat = c .before .before .before .before .before .before .before .before .before .eat in
     let pre = c .before .before .before .before .before .before .before .before .before .before .before .pre in
-    let one = spelled-first 45 _ _ (pre) (eat .ensures) in
+    let one = spelled-first 45 _ _ pre (eat .ensures) in
     let two = spelled-more one 62 (sym (sees2 .ensures) ∙ if2 .taken) (eat4 .ensures) in
     let three = spelled-more two 62 (sym (sees3 .ensures) ∙ if3 .taken) (eat5 .ensures) in
     operator-lexed three refl refl (misses-none _) _ (token2 .ensures)
 
 token-requires-3 : tie.Need-token-requires-3
-token-requires-3 c κs =
-    let eat4 = c .before .before .eat4 in
-    let eat = c .before .before .before .before .before .before .before .eat in
-    omega (arith, moved-up _ _ _ (eat .ensures), moved-up _ _ _ (eat4 .ensures))
+token-requires-3 c κs = moved-twice _ _ _ _ (c .before .before .before .before .before .before .before .eat .ensures) (c .before .before .eat4 .ensures)
 
 returns-3 : tie.Need-returns-3
 unfolding follow isOperator operators
@@ -99,12 +96,12 @@ returns-3 c =
     let sees2 = c .before .before .before .before .before .sees2 in
     let eat = c .before .before .before .before .before .before .before .before .eat in
     let pre = c .before .before .before .before .before .before .before .before .before .before .pre in
-    let one = spelled-first 45 _ _ (pre) (eat .ensures) in
+    let one = spelled-first 45 _ _ pre (eat .ensures) in
     let two = spelled-more one 62 (sym (sees2 .ensures) ∙ if2 .taken) (eat4 .ensures) in
     operator-lexed two refl refl (sym (sees3 .ensures) ∙ if3 .left) _ (token3 .ensures)
 
 token-requires-4 : tie.Need-token-requires-4
-token-requires-4 c κs = omega (arith, moved-up _ _ _ (c .before .before .before .before .eat .ensures))
+token-requires-4 c κs = moved-up _ _ _ (c .before .before .before .before .eat .ensures)
 
 returns-4 : tie.Need-returns-4
 unfolding follow isOperator operators
@@ -116,9 +113,8 @@ returns-4 c =
     let sees = c .before .before .before .before .sees in
     let eat = c .before .before .before .before .before .eat in
     let pre = c .before .before .before .before .before .before .before .pre in
-    let one = spelled-first 45 _ _ (pre) (eat .ensures) in
     let missed = misses-or _ _ _ (sym (sees .ensures) ∙ if1 .left) (sym (sees2 .ensures) ∙ if2 .left) in
-    operator-lexed one refl refl missed _ (token4 .ensures)
+    one-lexed 45 _ _ pre (eat .ensures) refl refl missed _ (token4 .ensures)
 
 pub eat-minus-or-comment-or-ptr-spec : {M : Type 1} → statement M
 eat-minus-or-comment-or-ptr-spec =

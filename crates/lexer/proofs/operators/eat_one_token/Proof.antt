@@ -1,5 +1,4 @@
 -- `lexer::operators::eat_one_token` meets its contract. Assumes nothing.
-use native.Mathlib.Omega.{arith}
 use mathlib.Core.Path.{_∙_, sym}
 use borrow.Author.Needs.{needs}
 use Rattle.grammar.proofs.Seen.{moved-up}
@@ -12,7 +11,7 @@ eat-requires : tie.Need-eat-requires
 eat-requires c κs = search needs
 
 token-requires : tie.Need-token-requires
-token-requires c κs = omega (arith, moved-up _ _ _ (c .eat .ensures))
+token-requires c κs = moved-up _ _ _ (c .eat .ensures)
 
 returns : tie.Need-returns
 returns c =

@@ -1,11 +1,9 @@
 -- `lexer::operators::eat_overlap_or_bitand` meets its contract. Assumes nothing.
-use native.Mathlib.Omega.{arith}
 use mathlib.Core.Path.{_∙_, refl, sym}
 use borrow.Author.Needs.{needs}
 use Rattle.grammar.specs.Classes.{operators}
-use Rattle.grammar.proofs.Seen.{misses-none, moved-up}
-use Rattle.grammar.proofs.Reading.{spelled-first, spelled-more}
-use Rattle.lexer.proofs.OperatorLaws.{follow, isOperator, operator-lexed}
+use Rattle.grammar.proofs.Seen.{moved-twice, moved-up}
+use Rattle.lexer.proofs.OperatorLaws.{follow, isOperator, one-lexed, two-lexed}
 use Rattle.lexer.proofs.operators.eat_overlap_or_bitand.Statement.{statement}
 use Rattle.lexer.proofs.operators.eat_overlap_or_bitand.Tie as tie
 
@@ -19,10 +17,7 @@ eat-requires-2 : tie.Need-eat-requires-2
 eat-requires-2 c κs = search needs
 
 token-requires : tie.Need-token-requires
-token-requires c κs =
-    let eat2 = c .eat2 in
-    let eat = c .before .before .before .eat in
-    omega (arith, moved-up _ _ _ (eat .ensures), moved-up _ _ _ (eat2 .ensures))
+token-requires c κs = moved-twice _ _ _ _ (c .before .before .before .eat .ensures) (c .eat2 .ensures)
 
 returns : tie.Need-returns
 unfolding follow isOperator operators
@@ -33,12 +28,10 @@ returns c =
     let sees = c .before .before .before .sees in
     let eat = c .before .before .before .before .eat in
     let pre = c .before .before .before .before .before .before .pre in
-    let one = spelled-first 38 _ _ (pre) (eat .ensures) in
-    let two = spelled-more one 38 (sym (sees .ensures) ∙ if1 .taken) (eat2 .ensures) in
-    operator-lexed two refl refl (misses-none _) _ (token .ensures)
+    two-lexed 38 _ _ pre (eat .ensures) 38 (sym (sees .ensures) ∙ if1 .taken) (eat2 .ensures) refl refl refl _ (token .ensures)
 
 token-requires-2 : tie.Need-token-requires-2
-token-requires-2 c κs = omega (arith, moved-up _ _ _ (c .before .before .eat .ensures))
+token-requires-2 c κs = moved-up _ _ _ (c .before .before .eat .ensures)
 
 returns-2 : tie.Need-returns-2
 unfolding follow isOperator operators
@@ -48,9 +41,7 @@ returns-2 c =
     let sees = c .before .before .sees in
     let eat = c .before .before .before .eat in
     let pre = c .before .before .before .before .before .pre in
-    let one = spelled-first 38 _ _ (pre) (eat .ensures) in
-    let missed = sym (sees .ensures) ∙ if1 .left in
-    operator-lexed one refl refl missed _ (token2 .ensures)
+    one-lexed 38 _ _ pre (eat .ensures) refl refl (sym (sees .ensures) ∙ if1 .left) _ (token2 .ensures)
 
 pub eat-overlap-or-bitand-spec : {M : Type 1} → statement M
 eat-overlap-or-bitand-spec =

@@ -1,11 +1,10 @@
 -- `lexer::operators::eat_slash_or_comment` meets its contract. Assumes nothing.
-use native.Mathlib.Omega.{arith}
 use mathlib.Core.Path.{_∙_, refl, sym}
 use borrow.Author.Needs.{needs}
 use Rattle.grammar.specs.Classes.{operators}
 use Rattle.grammar.proofs.Seen.{moved-up}
 use Rattle.grammar.proofs.Reading.{spelled-first, spelled-more}
-use Rattle.lexer.proofs.OperatorLaws.{comment-opens, follow, isOperator, operator-lexed}
+use Rattle.lexer.proofs.OperatorLaws.{comment-opens, follow, isOperator, one-lexed}
 use Rattle.lexer.proofs.operators.eat_slash_or_comment.Statement.{statement}
 use Rattle.lexer.proofs.operators.eat_slash_or_comment.Tie as tie
 
@@ -32,7 +31,7 @@ returns : tie.Need-returns
 returns c = c .eat-comment .ensures
 
 token-requires : tie.Need-token-requires
-token-requires c κs = omega (arith, moved-up _ _ _ (c .before .before .eat .ensures))
+token-requires c κs = moved-up _ _ _ (c .before .before .eat .ensures)
 
 returns-2 : tie.Need-returns-2
 unfolding follow isOperator operators
@@ -42,8 +41,7 @@ returns-2 c =
     let sees = c .before .before .sees in
     let eat = c .before .before .before .eat in
     let pre = c .before .before .before .before .before .pre in
-    let one = spelled-first 47 _ _ pre (eat .ensures) in
-    operator-lexed one refl refl (sym (sees .ensures) ∙ if1 .left) _ (token .ensures)
+    one-lexed 47 _ _ pre (eat .ensures) refl refl (sym (sees .ensures) ∙ if1 .left) _ (token .ensures)
 
 pub eat-slash-or-comment-spec : {M : Type 1} → statement M
 eat-slash-or-comment-spec =

@@ -1,7 +1,6 @@
 -- `lexer::operators::eat_white_space` meets its contract. Assumes nothing.
-use native.Mathlib.Omega.{arith}
 use borrow.Author.Needs.{needs}
-use Rattle.grammar.proofs.Seen.{moved-up, over-on}
+use Rattle.grammar.proofs.Seen.{moved-over}
 use Rattle.lexer.proofs.OperatorLaws.{blanks-lexed}
 use Rattle.lexer.proofs.operators.eat_white_space.Statement.{statement}
 use Rattle.lexer.proofs.operators.eat_white_space.Tie as tie
@@ -13,10 +12,7 @@ eat-while-blank-requires : tie.Need-eat-while-blank-requires
 eat-while-blank-requires c κs = search needs
 
 token-requires : tie.Need-token-requires
-token-requires c κs =
-    let eat-while-blank = c .eat-while-blank in
-    let eat = c .before .eat in
-    omega (arith, moved-up _ _ _ (eat .ensures), over-on _ _ _ _ (eat-while-blank .ensures))
+token-requires c κs = moved-over _ _ _ _ _ (c .before .eat .ensures) (c .eat-while-blank .ensures)
 
 returns : tie.Need-returns
 returns c =
@@ -24,7 +20,7 @@ returns c =
     let eat-while-blank = c .before .eat-while-blank in
     let eat = c .before .before .eat in
     let pre = c .before .before .before .before .pre in
-    blanks-lexed _ _ _ _ (pre) (eat .ensures) (eat-while-blank .ensures) _ (token .ensures)
+    blanks-lexed _ _ _ _ pre (eat .ensures) (eat-while-blank .ensures) _ (token .ensures)
 
 pub eat-white-space-spec : {M : Type 1} → statement M
 eat-white-space-spec =

@@ -1,5 +1,4 @@
 -- `lexer::parameters::eat_colon_or_var` meets its contract. Assumes nothing.
-use native.Mathlib.Omega.{arith}
 use mathlib.Core.Path.{_∙_, sym}
 use borrow.Author.Needs.{needs}
 use Rattle.grammar.proofs.Seen.{moved-up}
@@ -40,7 +39,7 @@ returns-2 : tie.Need-returns-2
 returns-2 c = search needs
 
 token-requires : tie.Need-token-requires
-token-requires c κs = omega (arith, moved-up _ _ _ (c .before .before .before .before .eat .ensures))
+token-requires c κs = moved-up _ _ _ (c .before .before .before .before .eat .ensures)
 
 returns-3 : tie.Need-returns-3
 returns-3 c =

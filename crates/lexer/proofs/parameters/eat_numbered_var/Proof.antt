@@ -1,7 +1,6 @@
 -- `lexer::parameters::eat_numbered_var` meets its contract. Assumes nothing.
-use native.Mathlib.Omega.{arith}
 use borrow.Author.Needs.{needs}
-use Rattle.grammar.proofs.Seen.{moved-up, over-on}
+use Rattle.grammar.proofs.Seen.{moved-over}
 use Rattle.grammar.proofs.Reading.{spelled-first}
 use Rattle.lexer.proofs.ParameterLaws.{numbered-ends, variable-lexed}
 use Rattle.lexer.proofs.parameters.eat_numbered_var.Statement.{statement}
@@ -14,10 +13,7 @@ eat-while-digit-requires : tie.Need-eat-while-digit-requires
 eat-while-digit-requires c κs = search needs
 
 token-requires : tie.Need-token-requires
-token-requires c κs =
-    let eat-while-digit = c .eat-while-digit in
-    let eat = c .before .eat in
-    omega (arith, moved-up _ _ _ (eat .ensures), over-on _ _ _ _ (eat-while-digit .ensures))
+token-requires c κs = moved-over _ _ _ _ _ (c .before .eat .ensures) (c .eat-while-digit .ensures)
 
 returns : tie.Need-returns
 returns c =
