@@ -36,12 +36,12 @@ pub record Dot (s : List ℕ) (start at : ℕ) : Type 0 where
   pub digits : Only (D or oneOf "_") s start at
 
 -- at the first digit behind a number's dot
-pub record Fraction (s : List ℕ) (start point at : ℕ) : Type 0 where
-  pub ordered : start ≤ point
-  pub next : at ≡ point + 1
-  pub dot : At (char ".") point s
+pub record Fraction (s : List ℕ) (start at dot : ℕ) : Type 0 where
+  pub ordered : start ≤ dot
+  pub next : at ≡ dot + 1
+  pub seen : At (char ".") dot s
   pub reads : Reads s start at (behind "1.5")
-  pub digits : Only (D or oneOf "_") s start point
+  pub digits : Only (D or oneOf "_") s start dot
 
 -- at the `e` of a number
 pub record Exponent (s : List ℕ) (start at : ℕ) : Type 0 where

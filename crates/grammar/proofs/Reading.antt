@@ -12,7 +12,7 @@ use lib.ListN.{length, drop, getD, drop-of-length-le, length-append, length-drop
 use lib.Seq.{drop-drop, take-append-seam, length-take-le}
 use Rattle.keywords.specs.Text.{bytes}
 use Rattle.keywords.proofs.Logic.{split, and-left, and-right}
-use Rattle.grammar.specs.Form.{Set, byte, no, _or_}
+use Rattle.grammar.specs.Form.{Set, byte, no}
 use Rattle.grammar.specs.Classes.{operators, rules}
 use Rattle.grammar.specs.Answers.{answer}
 use Rattle.grammar.specs.Longest.{Gives}

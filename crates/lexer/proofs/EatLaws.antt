@@ -9,7 +9,7 @@ use mathlib.Core.List.{List, [], _∷_}
 use lib.ListN.{length, getD, drop, drop-of-length-le}
 use lib.Seq.{drop-cons, drop-drop}
 use Rattle.keywords.proofs.Logic.{split}
-use Rattle.grammar.specs.Form.{Set, byte, no, _or_, holds}
+use Rattle.grammar.specs.Form.{Set, byte, no, holds}
 use Rattle.grammar.specs.Runs.{char, seesPair, sees, runLength, moved, optional, over}
 use Rattle.grammar.proofs.Seen.{moved-one, optional-one, over-on, moved-up, seen-in, pair-seen}
 use Rattle.lexer.specs.declared.cursor.Peek.the-variants.{Byte, Nothing}

@@ -9,10 +9,10 @@ use Rattle.keywords.proofs.Logic.{split}
 use Rattle.words.specs.Bytes.{isDigit, isHexdigit, isIdentifierStart, isIdentifierContinue, isBlank}
 use Rattle.grammar.specs.Form.{none, D, S, any, _or_, _except_, oneOf}
 use Rattle.grammar.specs.Classes.{operators, rules}
-use Rattle.grammar.specs.Answers.{first, init, answer}
+use Rattle.grammar.specs.Answers.{first, answer}
 use Rattle.grammar.specs.Runs.{char, sees, part, moved, optional}
 use Rattle.grammar.proofs.Seen.{misses-none, misses-or, or-left, or-right, or-other, inside-sees, except-sees}
-use Rattle.grammar.proofs.Seen.{moved-one, seen-in, optional-one, optional-none}
+use Rattle.grammar.proofs.Seen.{moved-one, moved-up, optional-one, optional-none}
 use Rattle.grammar.proofs.RulePlaces.{floatRule, underscoreRule, noExponentRule, wordAfterExponentRule}
 use Rattle.grammar.proofs.Reading.{Reads, Ends, behind, ends-long, ends-in, reads-eat, reads-joined, reads-stop}
 use Rattle.lexer.specs.declared.lexed.Refusal.the-variants.{BadExponentPart}
@@ -22,7 +22,7 @@ use Rattle.lexer.specs.declared.digits.Digits.the-variants.{Read, Bad}
 use Rattle.lexer.specs.Eaten.{cursor, groups}
 use Rattle.grammar.proofs.Places.{Group, Exponent}
 use Rattle.lexer.specs.Values.{Lexes}
-use Rattle.lexer.proofs.SpanLaws.{part-long, init-part, only-any, first-in, group-start}
+use Rattle.lexer.proofs.SpanLaws.{init-long, only-any, first-in, group-start}
 use Rattle.lexer.proofs.GroupLaws.{endOf, groups-read}
 use Rattle.lexer.proofs.DigitLaws.{Run, After, Stuck, digits-after, digits-stuck}
 use Rattle.lexer.proofs.NumberLaws.{span-lexes}
@@ -132,11 +132,8 @@ module _ {s : List ℕ} {from at d n : ℕ} (p : Exponent s from at) (f : d ≡ 
           let o = p .ordered in
           let u = up-sign in
           let v = exponent-after k .up in
-          let l = seen-in S s e h in
-          let m = moved-one S s e h in
-          let z = init-part s from e (omega arith) (moved e s) m l in
-          let w : length (init (part s from (moved e s))) ≡ e - from = rw z (part-long s from e (omega arith) (omega arith)) in
-          let j = first-e {i = moved e s} (omega arith) (omega arith) in
+          let w = init-long s from e (omega arith) S h in
+          let j = first-e (omega (arith, moved-up s e _ refl)) (ends-in x) in
           span-lexes x BadExponentPart _ _ refl _ _ (omega arith) (omega arith) r f
 
       pub exponent-ends : sees S (drop e s) ≡ false → Ends s from e floatRule

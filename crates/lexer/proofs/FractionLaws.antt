@@ -4,16 +4,15 @@ use native.Mathlib.Omega.{arith}
 use mathlib.Core.Path.{_≡_, refl, _∙_}
 use mathlib.Core.Bool.{true, false}
 use mathlib.Core.List.{List}
-use lib.ListN.{length, drop}
+use lib.ListN.{drop}
 use Rattle.words.specs.Bytes.{isDigit, isHexdigit, isIdentifierStart, isIdentifierContinue, isBlank}
-use Rattle.grammar.specs.Form.{none, D, S, _or_, _except_, oneOf}
+use Rattle.grammar.specs.Form.{none, D, S, _or_, oneOf}
 use Rattle.grammar.specs.Classes.{operators, rules}
-use Rattle.grammar.specs.Answers.{first, init, answer}
-use Rattle.grammar.specs.Runs.{char, sees, part, moved}
-use Rattle.grammar.proofs.Seen.{misses-none, misses-or, inside-sees, except-sees}
-use Rattle.grammar.proofs.Seen.{moved-one, seen-in}
+use Rattle.grammar.specs.Answers.{answer}
+use Rattle.grammar.specs.Runs.{char, sees, moved}
+use Rattle.grammar.proofs.Seen.{misses-none, misses-or, inside-sees, except-sees, moved-one, moved-up}
 use Rattle.grammar.proofs.RulePlaces.{floatRule, underscoreRule, wordAfterFractionRule}
-use Rattle.grammar.proofs.Reading.{Reads, Ends, behind, begin, reads-eat, reads-joined, reads-stop}
+use Rattle.grammar.proofs.Reading.{Reads, Ends, behind, begin, ends-in, reads-eat, reads-joined, reads-stop}
 use Rattle.lexer.specs.declared.lexed.Refusal.the-variants.{BadFractionalPart}
 use Rattle.lexer.specs.declared.lexed.Lexed.{Lexed}
 use Rattle.lexer.specs.declared.lexed.Lexed.the-variants.{Refused}
@@ -21,7 +20,7 @@ use Rattle.lexer.specs.declared.digits.Digits.the-variants.{Read, Bad}
 use Rattle.lexer.specs.Eaten.{cursor, groups}
 use Rattle.grammar.proofs.Places.{At, Only, Group, Dot, Fraction, Exponent}
 use Rattle.lexer.specs.Values.{Lexes}
-use Rattle.lexer.proofs.SpanLaws.{part-long, init-part, only-none, only-snoc, only-inside, first-in, group-start}
+use Rattle.lexer.proofs.SpanLaws.{init-long, only-none, only-snoc, only-inside, first-in, group-start}
 use Rattle.lexer.proofs.DigitLaws.{Run, After, Stuck, digits-after, digits-stuck}
 use Rattle.lexer.proofs.NumberLaws.{span-lexes, wordStart}
 
@@ -35,12 +34,12 @@ module _ {s : List ℕ} {from at d : ℕ} (p : Dot s from at) (f : d ≡ moved a
   unfolding behind rules operators isDigit isHexdigit isIdentifierStart isIdentifierContinue isBlank
   dot-reads = reads-eat (p .reads) (char ".") (behind "1.") refl (p .dot) f
 
-  pub dot-fraction : sees D (drop d s) ≡ true → Fraction s from at d
+  pub dot-fraction : sees D (drop d s) ≡ true → Fraction s from d at
   unfolding behind rules operators isDigit isHexdigit isIdentifierStart isIdentifierContinue isBlank
   dot-fraction h = record {
     next = f ∙ moved-one (char ".") s at (p .dot);
     ordered = p .reads .ordered;
-    dot = p .dot;
+    seen = p .dot;
     reads = reads-joined dot-reads (behind "1.5") D (behind "1.5") refl h;
     digits = p .digits;
   }
@@ -62,28 +61,28 @@ module _ {s : List ℕ} {from at d : ℕ} (p : Dot s from at) (f : d ≡ moved a
   dot-ends h n = reads-stop dot-reads (D or char "e" or char "E") floatRule refl refl (misses-or _ _ _ h n)
 
 -- a dot with no digits before it
-pub first-fraction : (s : List ℕ) (from d : ℕ) → At (char ".") from s → d ≡ moved from s → sees D (drop d s) ≡ true → Fraction s from from d
+pub first-fraction : (s : List ℕ) (from d : ℕ) → At (char ".") from s → d ≡ moved from s → sees D (drop d s) ≡ true → Fraction s from d from
 unfolding behind rules operators isDigit isHexdigit isIdentifierStart isIdentifierContinue isBlank
 first-fraction s from d h f k = record {
   next = f ∙ moved-one (char ".") s from h;
   ordered = omega arith;
-  dot = h;
+  seen = h;
   reads = reads-joined (reads-eat (begin s from) (char ".") (behind ".") refl h f) (behind "1.5") D (behind "1.5") refl k;
   digits = only-none (D or oneOf "_") s from;
 }
 
 -- the digits behind a dot
-module _ {s : List ℕ} {from dot at : ℕ} (p : Fraction s from dot at) where
+module _ {s : List ℕ} {from at dot : ℕ} (p : Fraction s from at dot) where
   through-dot : Only (D or oneOf "_.") s from at
   unfolding isDigit
   through-dot =
       rw (p .next)
-      (only-snoc (D or oneOf "_.") s from dot (p .ordered) (char ".") refl (p .dot)
+      (only-snoc (D or oneOf "_.") s from dot (p .ordered) (char ".") refl (p .seen)
       (only-inside (D or oneOf "_") s from dot (p .ordered) (D or oneOf "_.") refl (p .digits)))
 
   fraction-group : Group D s from at at
   unfolding isDigit
-  fraction-group = rw (p .next) (group-start D s from dot (p .ordered) (char ".") refl (p .dot))
+  fraction-group = rw (p .next) (group-start D s from dot (p .ordered) (char ".") refl (p .seen))
 
   pub fraction-stuck : {g e : ℕ} → Bad (cursor g) (cursor e) ≡ groups D at at (drop at s) → Stuck D s from at g e underscoreRule
   fraction-stuck b = digits-stuck fraction-run s from (p .reads) through-dot fraction-group b
@@ -110,13 +109,10 @@ module _ {s : List ℕ} {from dot at : ℕ} (p : Fraction s from dot at) where
           let o = p .ordered in
           let u = a .up in
           let q = p .next in
-          let l = seen-in S s e h in
-          let n = moved-one S s e h in
-          let z = init-part s from e (omega arith) (moved e s) n l in
-          let k : length (init (part s from (moved e s))) ≡ e - from = rw z (part-long s from e (omega arith) (omega arith)) in
-          let j : first (oneOf ".") (part s from (moved e s)) ≡ dot - from =
-          first-in (D or oneOf "_") (oneOf ".") refl s from dot (moved e s) o (omega arith) (omega arith) (p .digits)
-          (inside-sees (char ".") (oneOf ".") refl (drop dot s) (p .dot)) in
+          let k = init-long s from e (omega arith) S h in
+          let m = moved-up s e _ refl in
+          let d = inside-sees (char ".") (oneOf ".") refl (drop dot s) (p .seen) in
+          let j = first-in (D or oneOf "_") (oneOf ".") refl s from dot _ o (omega arith) (ends-in x) (p .digits) d in
           span-lexes x BadFractionalPart _ _ refl _ _ (omega arith) (omega arith) r f
 
       pub fraction-ends : sees S (drop e s) ≡ false → Ends s from e floatRule

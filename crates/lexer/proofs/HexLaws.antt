@@ -4,7 +4,7 @@ use native.Mathlib.Omega.{arith}
 use mathlib.Core.Path.{_≡_, refl, sym, _∙_, ap}
 use mathlib.Core.Bool.{Bool, true, false, true≢false}
 use mathlib.Core.List.{List}
-use lib.ListN.{length, drop}
+use lib.ListN.{drop}
 use Rattle.keywords.proofs.Logic.{split}
 use Rattle.words.specs.Bytes.{isDigit, isHexdigit, isIdentifierStart, isIdentifierContinue, isBlank}
 use Rattle.grammar.specs.Form.{none, H, S, any, no, _or_, _except_}
@@ -12,7 +12,6 @@ use Rattle.grammar.specs.Classes.{operators, rules}
 use Rattle.grammar.specs.Answers.{afterLast, init, answer}
 use Rattle.grammar.specs.Runs.{char, sees, part, moved}
 use Rattle.grammar.proofs.Seen.{misses-none, misses-or, except-sees}
-use Rattle.grammar.proofs.Seen.{moved-one, seen-in}
 use Rattle.grammar.proofs.RulePlaces.{integerRule, noHexdigitRule, underscoreAfterXRule, hexUnderscoreRule, wordAfterHexRule}
 use Rattle.grammar.proofs.Reading.{Reads, Ends, behind, ends-long, reads-eat, reads-joined, reads-stop}
 use Rattle.lexer.specs.declared.lexed.Refusal.the-variants.{BadNumber, MalformedHexInteger}
@@ -23,7 +22,7 @@ use Rattle.lexer.specs.declared.digits.Digits.the-variants.{Read, Bad}
 use Rattle.lexer.specs.Eaten.{cursor, groups, hexGroups}
 use Rattle.grammar.proofs.Places.{Hex}
 use Rattle.lexer.specs.Values.{Lexes}
-use Rattle.lexer.proofs.SpanLaws.{part-long, init-part, only-any}
+use Rattle.lexer.proofs.SpanLaws.{init-part, init-long, only-any}
 use Rattle.lexer.proofs.GroupLaws.{endOf, firstOf, groups-read, hex-groups, hex-empty}
 use Rattle.lexer.proofs.DigitLaws.{Run, After, Stuck, digits-after, digits-stuck}
 use Rattle.lexer.proofs.NumberLaws.{span-lexes}
@@ -121,10 +120,7 @@ module _ {s : List ℕ} {from at : ℕ} (p : Hex s from at) where
       pub hex-word-lexed : sees S (drop e s) ≡ true → (r : Lexed) → r ≡ Refused BadNumber from (e - from) (cursor from) → Lexes s from r
       unfolding rules answer
       hex-word-lexed h r f =
-          let o = hex-after n .reads .ordered in
-          let l = seen-in S s e h in
-          let z = init-part s from e o (moved e s) (moved-one S s e h) l in
-          let k : length (init (part s from (moved e s))) ≡ e - from = rw z (part-long s from e o (omega arith)) in
+          let k = init-long s from e (hex-after n .reads .ordered) S h in
           span-lexes (hex-word h) BadNumber _ _ refl _ _ (omega arith) (omega arith) r f
 
       pub hex-ends : sees S (drop e s) ≡ false → Ends s from e integerRule

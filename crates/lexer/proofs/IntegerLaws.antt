@@ -4,14 +4,13 @@ use native.Mathlib.Omega.{arith}
 use mathlib.Core.Path.{_≡_, refl, _∙_}
 use mathlib.Core.Bool.{true, false}
 use mathlib.Core.List.{List}
-use lib.ListN.{length, drop}
+use lib.ListN.{drop}
 use Rattle.words.specs.Bytes.{isDigit, isHexdigit, isIdentifierStart, isIdentifierContinue, isBlank}
 use Rattle.grammar.specs.Form.{none, D, H, S, no, _or_, _except_, oneOf}
 use Rattle.grammar.specs.Classes.{operators, rules}
-use Rattle.grammar.specs.Answers.{init, answer}
-use Rattle.grammar.specs.Runs.{char, sees, part, moved}
-use Rattle.grammar.proofs.Seen.{misses-none, misses-or, inside-misses, except-sees}
-use Rattle.grammar.proofs.Seen.{moved-one, seen-in}
+use Rattle.grammar.specs.Answers.{answer}
+use Rattle.grammar.specs.Runs.{char, sees, moved}
+use Rattle.grammar.proofs.Seen.{misses-none, misses-or, inside-misses, except-sees, moved-one}
 use Rattle.grammar.proofs.RulePlaces.{integerRule, underscoreRule, wordAfterIntegerRule}
 use Rattle.grammar.proofs.Reading.{Reads, Ends, behind, begin, reads-eat, reads-join, reads-stop}
 use Rattle.lexer.specs.declared.lexed.Refusal.the-variants.{BadNumber}
@@ -21,7 +20,7 @@ use Rattle.lexer.specs.declared.digits.Digits.the-variants.{Read, Bad}
 use Rattle.lexer.specs.Eaten.{cursor, groups}
 use Rattle.grammar.proofs.Places.{At, Only, Group, Decimal, Dot, Exponent, Hex}
 use Rattle.lexer.specs.Values.{Lexes}
-use Rattle.lexer.proofs.SpanLaws.{part-long, init-part, only-none, only-snoc, only-inside, group-start, group-first}
+use Rattle.lexer.proofs.SpanLaws.{init-long, only-none, only-snoc, only-inside, group-start, group-first}
 use Rattle.lexer.proofs.DigitLaws.{Run, After, Stuck, digits-after, digits-stuck}
 use Rattle.lexer.proofs.NumberLaws.{span-lexes, wordStart}
 
@@ -60,12 +59,8 @@ module _ {s : List ℕ} {from i at : ℕ} (p : After D (D or oneOf "_") s from i
     pub integer-word-lexed : sees S (drop at s) ≡ true → (r : Lexed) → r ≡ Refused BadNumber from (at - from) (cursor from) → Lexes s from r
     unfolding rules answer
     integer-word-lexed h r f =
-        let e = integer-word h in
-        let o = p .reads .ordered in
-        let l = seen-in S s at h in
-        let z = init-part s from at o (moved at s) (moved-one S s at h) l in
-        let k : length (init (part s from (moved at s))) ≡ at - from = rw z (part-long s from at o (omega arith)) in
-        span-lexes e BadNumber _ _ refl _ _ (omega arith) (omega arith) r f
+        let k = init-long s from at (p .reads .ordered) S h in
+        span-lexes (integer-word h) BadNumber _ _ refl _ _ (omega arith) (omega arith) r f
 
     pub integer-ends : sees S (drop at s) ≡ false → Ends s from at integerRule
     unfolding behind rules operators isDigit isHexdigit isIdentifierStart isIdentifierContinue isBlank

@@ -10,13 +10,13 @@ use borrow.Author.Tests.{not-true, ne-eqb}
 use Rattle.keywords.proofs.Logic.{and-left, and-right, every}
 use Rattle.grammar.specs.Form.{Set, any, no, holds}
 use Rattle.grammar.specs.Answers.{first, afterLast, init}
-use Rattle.grammar.specs.Runs.{sees, part}
-use Rattle.grammar.proofs.Seen.{inside, inside-holds, seen-in, seen-holds}
+use Rattle.grammar.specs.Runs.{sees, part, moved}
+use Rattle.grammar.proofs.Seen.{inside, inside-holds, moved-one, seen-in, seen-holds}
 use Rattle.grammar.proofs.Places.{Only, Group}
 
 -- parts
 module _ (s : List ℕ) (from at : ℕ) (o : from ≤ at) where
-  pub part-long : at ≤ length s → length (part s from at) ≡ at - from
+  part-long : at ≤ length s → length (part s from at) ≡ at - from
   part-long h = length-take-le (at - from) (drop from s) (omega (arith, length-drop from s))
 
   part-snoc : at < length s → part s from (at + 1) ≡ part s from at ++ getD s at 0 ∷ []
@@ -39,6 +39,12 @@ module _ (s : List ℕ) (from at : ℕ) (o : from ≤ at) where
       let n : length (part s from e) ≡ e - from = length-take-le (e - from) (drop from s) (omega (arith, length-drop from s)) in
       let k : length (part s from e) - 1 ≡ at - from = omega arith in
       rw k (take-take (at - from) (e - from) (drop from s) (omega arith))
+
+  -- the length before a last byte that is seen
+  pub init-long : (t : Set) → sees t (drop at s) ≡ true → length (init (part s from (moved at s))) ≡ at - from
+  init-long t h =
+      let l = seen-in t s at h in
+      rw (init-part (moved at s) (moved-one t s at h) l) (part-long (omega arith))
 
 -- bytes that are all of a set
 every-snoc : (p : ℕ → Bool) (w : List ℕ) (b : ℕ) → every p w ≡ true → p b ≡ true → every p (w ++ b ∷ []) ≡ true

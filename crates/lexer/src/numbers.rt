@@ -42,7 +42,7 @@ fn eat_dot_after_digits(text: &[u8], start: Cursor, at: Cursor) -> Lexed
 
 // The digits behind the dot of a number.
 fn eat_frac(text: &[u8], start: Cursor, at: Cursor, dot: Cursor) -> Lexed
-    requires { ⌜ Fraction (now text) (start .at) (dot .at) (at .at) ⌝ }
+    requires { ⌜ Fraction (now text) (start .at) (at .at) (dot .at) ⌝ }
     ensures { λ r. ⌜ Lexes (now (text .entry)) (start .at) r ⌝ }
 {
     match at.eat_while_number_digit(text) {
