@@ -22,8 +22,8 @@ use Rattle.grammar.proofs.Model.{Found, nothing, found, here, onward, s
 use Rattle.grammar.proofs.Lexemes.{next-gives}
 use Rattle.grammar.proofs.Theorems.{sound}
 use Rattle.grammar.proofs.Seen.{moved-one, seen-cons, seen-holds, pair-seen}
-use Rattle.grammar.proofs.Walk.{ends, goes, meets, isFound, scan-found, ends-step, ends-run, joins, scan-join, scan-stop, alternate}
-use Rattle.grammar.proofs.Walk.{ends-alternate, scan-joined, paired, scan-pair, twice, scan-no-pair, unpaired, along, ends-along}
+use Rattle.grammar.proofs.Scan.{ends, goes, meets, isFound, scan-found, ends-step, ends-run, joins, scan-join, scan-stop, alternate}
+use Rattle.grammar.proofs.Scan.{ends-alternate, scan-joined, paired, scan-pair, twice, scan-no-pair, unpaired, along, ends-along}
 
 -- what is left of the rules behind a text
 unfoldable pub behind : String → State

@@ -14,9 +14,9 @@ use Rattle.words.specs.Word.{upper, kindOf}
 use Rattle.grammar.specs.Form.{Set, holds, Has}
 use Rattle.grammar.specs.Classes.{Class, Rule, operators, rules}
 use Rattle.grammar.specs.Answers.{Answer, token, end, refusal, refusalNumber, answer}
-use Rattle.grammar.specs.Longest.{Follows, Stands, Gives}
+use Rattle.grammar.specs.Longest.{Every, Follows, Stands, Gives}
 use Rattle.grammar.specs.Texts
-use Rattle.grammar.specs.Texts.{Row, Every, Walks, table, Unfit, unfits}
+use Rattle.grammar.specs.Texts.{Row, Walks, table, Unfit, unfits}
 use Rattle.grammar.proofs.Equivalences.{and-iff, not-iff, some-every}
 use Rattle.grammar.proofs.Rest.{nullable}
 use Rattle.grammar.proofs.States.{ruleAt, start}

@@ -14,6 +14,11 @@ abbrev pub Some : {A : Type 0} → (A → Type 0) → List A → Type 0
 Some P [] = ⊥
 Some P (x ∷ l) = P x ⊎ Some P l
 
+-- all entries of the list
+abbrev pub Every : {A : Type 0} → (A → Type 0) → List A → Type 0
+Every P [] = Unit {0}
+Every P (x ∷ l) = P x × Every P l
+
 -- the text is at its end, or its next byte is in the set
 abbrev pub Follows : Set → List ℕ → Type 0
 Follows t [] = Unit {0}

@@ -21,11 +21,6 @@ abbrev pub Walks : List Rule → List ℕ → ℕ → List Answer → Type 0
 Walks rs s at [] = Unit {0}
 Walks rs s at (a ∷ l) = Gives rs s at a × Walks rs s (offset a) l
 
--- all entries of the list
-abbrev pub Every : {A : Type 0} → (A → Type 0) → List A → Type 0
-Every P [] = Unit {0}
-Every P (x ∷ l) = P x × Every P l
-
 pub record Row : Type 0 where
   pub text : List ℕ
   pub from : ℕ

@@ -11,7 +11,7 @@ use Rattle.grammar.specs.Form.{Set, no, holds}
 use Rattle.grammar.specs.Runs.{char, sees}
 use Rattle.grammar.proofs.States.{State, met}
 use Rattle.grammar.proofs.Seen.{inside, moved-one, seen-in}
-use Rattle.grammar.proofs.Walk.{goes, meets}
+use Rattle.grammar.proofs.Scan.{goes, meets}
 use Rattle.grammar.proofs.Reading.{Reads, Ends, reads-eat, reads-joined, reads-stop}
 use Rattle.lexer.specs.declared.digits.Digits.{Digits}
 use Rattle.lexer.specs.declared.digits.Digits.the-variants.{Read, Bad}

@@ -19,7 +19,7 @@ use Rattle.grammar.specs.Answers.{answer}
 use Rattle.grammar.specs.Runs.{char, sees, moved, over}
 use Rattle.grammar.proofs.States.{start, after, met}
 use Rattle.grammar.proofs.Seen.{moved-end, over-stops, at-end, misses-none, inside-misses}
-use Rattle.grammar.proofs.Walk.{goes, along}
+use Rattle.grammar.proofs.Scan.{goes, along}
 use Rattle.grammar.proofs.RulePlaces.{blankRunRule, closedLineRule, openLineRule, closedBlockRule, openBlockRule, operatorRule, bangRule}
 use Rattle.grammar.proofs.Reading.{Reads, Ends, Spelled, behind, begin, reads-eat, reads-while, reads-join, reads-stop}
 use Rattle.grammar.proofs.Reading.{spelled-first, spelled-more, spelled-reads, spelled-part, reads-end}

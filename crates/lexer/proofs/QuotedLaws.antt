@@ -15,7 +15,7 @@ use Rattle.grammar.specs.Answers.{answer}
 use Rattle.grammar.specs.Runs.{char, sees, moved, over}
 use Rattle.grammar.proofs.States.{State, start, after, met}
 use Rattle.grammar.proofs.Seen.{misses-none, at-end, over-stops, misses-or, misses-any}
-use Rattle.grammar.proofs.Walk.{goes, meets, along, alternate, alternate-even, alternate-odd}
+use Rattle.grammar.proofs.Scan.{goes, meets, along, alternate, alternate-even, alternate-odd}
 use Rattle.grammar.proofs.RulePlaces.{stringRule, quotedNameRule, blobRule, openQuoteRule, openBlobRule, oddBlobRule}
 use Rattle.grammar.proofs.Reading.{Reads, Ends, behind, spelled-first, spelled-reads, reads-alternate, reads-eat}
 use Rattle.grammar.proofs.Reading.{reads-while, reads-join, reads-stop, reads-end}

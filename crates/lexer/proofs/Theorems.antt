@@ -8,7 +8,8 @@ use mathlib.Core.Logic.{inl, inr}
 use lib.ListN.{length, getD}
 use Rattle.grammar.specs.Classes.{rules}
 use Rattle.grammar.specs.Answers.{Answer, token, end, refusal}
-use Rattle.grammar.specs.Texts.{Row, offset, Walks, Every, table}
+use Rattle.grammar.specs.Longest.{Every}
+use Rattle.grammar.specs.Texts.{Row, offset, Walks, table}
 use Rattle.grammar.proofs.Unique.{gives-unique}
 use Rattle.grammar.proofs.TextLaws.{texts}
 use Rattle.lexer.specs.declared.lexed.Refusal.{Refusal}

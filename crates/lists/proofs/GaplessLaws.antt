@@ -7,8 +7,7 @@ use mathlib.Core.Logic.{inl, inr}
 use lib.ListN.{length}
 use Rattle.grammar.specs.Classes.{rules}
 use Rattle.grammar.specs.Answers.{Answer, token, end, refusal}
-use Rattle.grammar.specs.Longest.{Gives}
-use Rattle.grammar.specs.Texts.{Every}
+use Rattle.grammar.specs.Longest.{Every, Gives}
 use Rattle.grammar.proofs.Tokens.{told, end-told}
 use Rattle.lists.specs.Walk.{Legal, tokenOf, Goes, Passes}
 use Rattle.lists.specs.Lists.{HasRoom, listAnswer, Listing}

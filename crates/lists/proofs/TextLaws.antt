@@ -12,8 +12,7 @@ use Rattle.words.specs.Bytes.{isDigit, isHexdigit, isIdentifierStart, isIdentif
 use Rattle.words.specs.Word.{upper, kindOf}
 use Rattle.grammar.specs.Classes.{operators, rules}
 use Rattle.grammar.specs.Answers.{Answer, token, end, refusal, refusalNumber, answer}
-use Rattle.grammar.specs.Longest.{Gives}
-use Rattle.grammar.specs.Texts.{Every}
+use Rattle.grammar.specs.Longest.{Every, Gives}
 use Rattle.grammar.proofs.Model.{next}
 use Rattle.grammar.proofs.Lexemes.{next-gives}
 use Rattle.grammar.proofs.Theorems.{sound}

@@ -13,8 +13,7 @@ use lib.ListN.{length, drop}
 use Rattle.keywords.specs.Kinds.{kind}
 use Rattle.grammar.specs.Classes.{rules}
 use Rattle.grammar.specs.Answers.{Answer, token, end, refusal, refusalNumber}
-use Rattle.grammar.specs.Longest.{Gives}
-use Rattle.grammar.specs.Texts.{Every}
+use Rattle.grammar.specs.Longest.{Every, Gives}
 use Rattle.grammar.proofs.Tokens.{told}
 use Rattle.lexer.specs.declared.cursor.Cursor.{Cursor}
 use Rattle.lexer.specs.declared.lexed.Refusal.{Refusal}

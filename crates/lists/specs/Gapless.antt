@@ -8,8 +8,7 @@ use mathlib.Core.Logic.{_⊎_}
 use lib.ListN.{length, take, drop}
 use Rattle.grammar.specs.Classes.{Class, rules}
 use Rattle.grammar.specs.Answers.{Answer, end, refusal, refusalNumber, answer}
-use Rattle.grammar.specs.Longest.{Longest}
-use Rattle.grammar.specs.Texts.{Every}
+use Rattle.grammar.specs.Longest.{Every, Longest}
 use Rattle.lists.specs.Walk.{Legal, tokenOf}
 use Rattle.lists.specs.Lists.{recordsOf, HasRoom}
 

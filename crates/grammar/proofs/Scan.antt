@@ -1,4 +1,4 @@
--- Walking from state to state: where the bytes of a set lead is found by computing. Assumes nothing.
+-- Scanning from state to state, inside one lexeme: where the bytes of a set lead is found by computing. Assumes nothing.
 use Prim.Native.Nat.{ℕ, zero, suc, _+_, _-_, _%_}
 use native.Mathlib.Omega.{arith}
 use native.Mathlib.Nat.{add-zero}
