@@ -2,6 +2,9 @@
 use native.Mathlib.Omega.{arith}
 use mathlib.Core.Path.{_∙_, sym}
 use borrow.Author.Needs.{needs}
+use Rattle.grammar.specs.Form.{D, _or_, oneOf}
+use Rattle.grammar.proofs.Reading.{behind}
+use Rattle.lexer.proofs.DigitLaws.{After}
 use Rattle.lexer.proofs.NumberLaws.{integer-lexed, stuck-lexed}
 use Rattle.lexer.proofs.IntegerLaws.{decimal-after, decimal-stuck, integer-dot, integer-e, integer-ends, integer-word-lexed}
 use Rattle.lexer.proofs.numbers.eat_decimal.Statement.{statement}
@@ -24,6 +27,14 @@ refused-requires c κs =
 enum-known-end : tie.Need-enum-known-end
 enum-known-end c = search needs
 
+-- behind the digits, whatever follows
+abbrev entry : tie.After-end → tie.Start
+entry c = c .before .before .before .before
+
+digits : (c : tie.After-end)
+    → After D (D or oneOf "_") (entry c .args .text .now) (entry c .args .start .at) (entry c .args .at .at) (c .end .given .0 .0 .at) (behind "1")
+digits c = decimal-after (entry c .pre) (sym (c .end .given .1) ∙ c .before .before .eat-while-number-digit .ensures)
+
 sees-requires : tie.Need-sees-requires
 sees-requires c κs = search needs
 
@@ -31,10 +42,7 @@ eat-dot-after-digits-requires : tie.Need-eat-dot-after-digits-requires
 eat-dot-after-digits-requires c κs =
     let if1 = c .if1 in
     let sees = c .before .sees in
-    let end = c .before .before .before .end in
-    let eat-while-number-digit = c .before .before .before .before .before .eat-while-number-digit in
-    let pre = c .before .before .before .before .before .before .before .pre in
-    integer-dot (decimal-after pre (sym (end .given .1) ∙ eat-while-number-digit .ensures)) (sym (sees .ensures) ∙ if1 .taken)
+    integer-dot (digits (c .before .before .before)) (sym (sees .ensures) ∙ if1 .taken)
 
 returns : tie.Need-returns
 returns c = c .eat-dot-after-digits .ensures
@@ -46,10 +54,7 @@ eat-expo-requires : tie.Need-eat-expo-requires
 eat-expo-requires c κs =
     let if2 = c .if2 in
     let sees-either = c .before .sees-either in
-    let end = c .before .before .before .before .before .end in
-    let eat-while-number-digit = c .before .before .before .before .before .before .before .eat-while-number-digit in
-    let pre = c .before .before .before .before .before .before .before .before .before .pre in
-    integer-e (decimal-after pre (sym (end .given .1) ∙ eat-while-number-digit .ensures)) (sym (sees-either .ensures) ∙ if2 .taken)
+    integer-e (digits (c .before .before .before .before .before)) (sym (sees-either .ensures) ∙ if2 .taken)
 
 returns-2 : tie.Need-returns-2
 returns-2 c = c .eat-expo .ensures
@@ -58,11 +63,7 @@ sees-start-requires : tie.Need-sees-start-requires
 sees-start-requires c κs = search needs
 
 refused-requires-2 : tie.Need-refused-requires-2
-refused-requires-2 c κs =
-    let end = c .before .before .before .before .before .before .before .end in
-    let eat-while-number-digit = c .before .before .before .before .before .before .before .before .before .eat-while-number-digit in
-    let pre = c .before .before .before .before .before .before .before .before .before .before .before .pre in
-    decimal-after pre (sym (end .given .1) ∙ eat-while-number-digit .ensures) .reads .ordered
+refused-requires-2 c κs = digits (c .before .before .before .before .before .before .before) .reads .ordered
 
 returns-3 : tie.Need-returns-3
 returns-3 c =
@@ -73,19 +74,12 @@ returns-3 c =
     let sees-either = c .before .before .before .before .sees-either in
     let if1 = c .before .before .before .before .before .if1 in
     let sees = c .before .before .before .before .before .before .sees in
-    let end = c .before .before .before .before .before .before .before .before .end in
-    let eat-while-number-digit = c .before .before .before .before .before .before .before .before .before .before .eat-while-number-digit in
-    let pre = c .before .before .before .before .before .before .before .before .before .before .before .before .pre in
-    let after = decimal-after pre (sym (end .given .1) ∙ eat-while-number-digit .ensures) in
+    let after = digits (c .before .before .before .before .before .before .before .before) in
     let no-dot = sym (sees .ensures) ∙ if1 .left in
     integer-word-lexed after no-dot (sym (sees-either .ensures) ∙ if2 .left) (sym (sees-start .ensures) ∙ if3 .taken) _ (refused2 .ensures)
 
 token-requires : tie.Need-token-requires
-token-requires c κs =
-    let end = c .before .before .before .before .before .before .before .end in
-    let eat-while-number-digit = c .before .before .before .before .before .before .before .before .before .eat-while-number-digit in
-    let pre = c .before .before .before .before .before .before .before .before .before .before .before .pre in
-    decimal-after pre (sym (end .given .1) ∙ eat-while-number-digit .ensures) .reads .ordered
+token-requires c κs = digits (c .before .before .before .before .before .before .before) .reads .ordered
 
 returns-4 : tie.Need-returns-4
 returns-4 c =
@@ -104,10 +98,7 @@ returns-5 c =
     let sees-either = c .before .before .before .before .sees-either in
     let if1 = c .before .before .before .before .before .if1 in
     let sees = c .before .before .before .before .before .before .sees in
-    let end = c .before .before .before .before .before .before .before .before .end in
-    let eat-while-number-digit = c .before .before .before .before .before .before .before .before .before .before .eat-while-number-digit in
-    let pre = c .before .before .before .before .before .before .before .before .before .before .before .before .pre in
-    let after = decimal-after pre (sym (end .given .1) ∙ eat-while-number-digit .ensures) in
+    let after = digits (c .before .before .before .before .before .before .before .before) in
     let no-dot = sym (sees .ensures) ∙ if1 .left in
     integer-lexed (integer-ends after no-dot (sym (sees-either .ensures) ∙ if2 .left) (sym (sees-start .ensures) ∙ if3 .left)) _ (token .ensures)
 
