@@ -31,6 +31,17 @@ exponent-run : Run D any (behind "1e5") (behind "1e_") underscoreRule
 unfolding behind rules operators isDigit isHexdigit isIdentifierStart isIdentifierContinue isBlank
 exponent-run = record { digit = refl; line = refl; back = refl; stop = refl; rule = refl; digits-in = refl; line-in = refl; apart = refl }
 
+-- behind an exponent's digits
+module _ {s : List ℕ} {from i at : ℕ} (a : After D any s from i at (behind "1e5")) where
+  exponent-word : sees S (drop at s) ≡ true → Ends s from (moved at s) wordAfterExponentRule
+  unfolding behind rules operators isDigit isHexdigit isIdentifierStart isIdentifierContinue isBlank
+  exponent-word h =
+      reads-stop (reads-eat (a .reads) (S except char "_") (behind "1e5a") refl (except-sees S _ _ h (a .line)) refl) none wordAfterExponentRule refl refl (misses-none _)
+
+  pub exponent-ends : sees S (drop at s) ≡ false → Ends s from at floatRule
+  unfolding behind rules operators isDigit isHexdigit isIdentifierStart isIdentifierContinue isBlank
+  exponent-ends h = reads-stop (a .reads) (D or S) floatRule refl refl (misses-or _ _ _ (a .digit) h)
+
 -- the exponent, behind its `e` and sign
 module _ {s : List ℕ} {from at d n : ℕ} (p : Exponent s from at) (f : d ≡ moved at s) (g : n ≡ optional (char "+" or char "-") d s) where
   next : d ≡ at + 1
@@ -85,6 +96,16 @@ module _ {s : List ℕ} {from at d n : ℕ} (p : Exponent s from at) (f : d ≡ 
       (λ h. digits-stuck exponent-run s from (exponent-digits h) (only-any s from n) exponent-group b)
       (λ h. absurd (let z = b ∙ exponent-empty h in let y : _≡_ {A = Bool} true false = cc in true≢false y))
 
+  -- the span begins with the `e`
+  first-e : {i : ℕ} → at < i → i ≤ length s → first (oneOf "eE") (part s from i) ≡ at - from
+  unfolding isDigit
+  first-e {i} l h =
+      first-in (D or oneOf "_.") (oneOf "eE") refl s from at i (p .ordered) l h (p .digits)
+      (inside-sees (char "e" or char "E") (oneOf "eE") refl (drop at s) (p .e))
+
+  up-sign : at < n
+  up-sign = let m = next in split (sees (char "+" or char "-") (drop d s)) (λ h. omega (arith, g, optional-one _ s d h)) (λ h. omega (arith, unsigned h))
+
   module _ {e : ℕ} (b : Read (cursor e) ≡ groups D n n (drop n s)) where
     pub exponent-after : (n ≡ e → ⊥) → After D any s from n e (behind "1e5")
     exponent-after k =
@@ -99,15 +120,6 @@ module _ {s : List ℕ} {from at d n : ℕ} (p : Exponent s from at) (f : d ≡ 
         absurd (true≢false (sym h ∙ misses-or D (char "_") (drop n s) (rw k (a .digit)) (rw k (a .line)))))
         (λ h. exponent-none (or-left D (char "_") (drop n s) h) (or-right D (char "_") (drop n s) h))
 
-    first-e : {i : ℕ} → at < i → i ≤ length s → first (oneOf "eE") (part s from i) ≡ at - from
-    unfolding isDigit
-    first-e {i} l h =
-        first-in (D or oneOf "_.") (oneOf "eE") refl s from at i (p .ordered) l h (p .digits)
-        (inside-sees (char "e" or char "E") (oneOf "eE") refl (drop at s) (p .e))
-
-    up-sign : at < n
-    up-sign = let m = next in split (sees (char "+" or char "-") (drop d s)) (λ h. omega (arith, g, optional-one _ s d h)) (λ h. omega (arith, unsigned h))
-
     pub exponent-missing-lexed : n ≡ e → (r : Lexed) → r ≡ Refused BadExponentPart at (e - at) (cursor from) → Lexes s from r
     unfolding rules answer
     exponent-missing-lexed k r f =
@@ -118,24 +130,14 @@ module _ {s : List ℕ} {from at d n : ℕ} (p : Exponent s from at) (f : d ≡ 
         let j = first-e u (ends-in x) in
         span-lexes x BadExponentPart _ _ refl _ _ (omega arith) (omega arith) r f
 
-    module _ (k : n ≡ e → ⊥) where
-      exponent-word : sees S (drop e s) ≡ true → Ends s from (moved e s) wordAfterExponentRule
-      unfolding behind rules operators isDigit isHexdigit isIdentifierStart isIdentifierContinue isBlank
-      exponent-word h =
-          let a = exponent-after k in
-          reads-stop (reads-eat (a .reads) (S except char "_") (behind "1e5a") refl (except-sees S _ _ h (a .line)) refl) none wordAfterExponentRule refl refl (misses-none _)
-
-      pub exponent-word-lexed : sees S (drop e s) ≡ true → (r : Lexed) → r ≡ Refused BadExponentPart at (e - at) (cursor from) → Lexes s from r
-      unfolding rules answer
-      exponent-word-lexed h r f =
-          let x = exponent-word h in
-          let o = p .ordered in
-          let u = up-sign in
-          let v = exponent-after k .up in
-          let w = init-long s from e (omega arith) S h in
-          let j = first-e (omega (arith, moved-up s e _ refl)) (ends-in x) in
-          span-lexes x BadExponentPart _ _ refl _ _ (omega arith) (omega arith) r f
-
-      pub exponent-ends : sees S (drop e s) ≡ false → Ends s from e floatRule
-      unfolding behind rules operators isDigit isHexdigit isIdentifierStart isIdentifierContinue isBlank
-      exponent-ends h = let a = exponent-after k in reads-stop (a .reads) (D or S) floatRule refl refl (misses-or _ _ _ (a .digit) h)
+  pub exponent-word-lexed : {e : ℕ} → After D any s from n e (behind "1e5") → sees S (drop e s) ≡ true
+      → (r : Lexed) → r ≡ Refused BadExponentPart at (e - at) (cursor from) → Lexes s from r
+  unfolding rules answer
+  exponent-word-lexed {e} a h r f =
+      let x = exponent-word a h in
+      let o = p .ordered in
+      let u = up-sign in
+      let v = a .up in
+      let w = init-long s from e (omega arith) S h in
+      let j = first-e (omega (arith, moved-up s e _ refl)) (ends-in x) in
+      span-lexes x BadExponentPart _ _ refl _ _ (omega arith) (omega arith) r f

@@ -71,6 +71,21 @@ first-fraction s from d h f k = record {
   digits = only-none (D or oneOf "_") s from;
 }
 
+-- behind the digits of a fraction
+module _ {s : List ℕ} {from i at : ℕ} (a : After D (D or oneOf "_.") s from i at (behind "1.5")) where
+  pub fraction-e : sees (char "e" or char "E") (drop at s) ≡ true → Exponent s from at
+  unfolding behind rules operators isDigit isHexdigit isIdentifierStart isIdentifierContinue isBlank
+  fraction-e h = record { ordered = a .reads .ordered; e = h; reads = reads-eat (a .reads) (char "e" or char "E") (behind "1e") refl h refl; digits = a .only }
+
+  fraction-word : sees (char "e" or char "E") (drop at s) ≡ false → sees S (drop at s) ≡ true → Ends s from (moved at s) wordAfterFractionRule
+  unfolding behind rules operators isDigit isHexdigit isIdentifierStart isIdentifierContinue isBlank
+  fraction-word m h =
+      reads-stop (reads-eat (a .reads) wordStart (behind "1.5a") refl (except-sees S _ _ h (misses-or _ _ _ (a .line) m)) refl) none wordAfterFractionRule refl refl (misses-none _)
+
+  pub fraction-ends : sees S (drop at s) ≡ false → Ends s from at floatRule
+  unfolding behind rules operators isDigit isHexdigit isIdentifierStart isIdentifierContinue isBlank
+  fraction-ends h = reads-stop (a .reads) (D or S) floatRule refl refl (misses-or _ _ _ (a .digit) h)
+
 -- the digits behind a dot
 module _ {s : List ℕ} {from at dot : ℕ} (p : Fraction s from at dot) where
   through-dot : Only (D or oneOf "_.") s from at
@@ -90,31 +105,16 @@ module _ {s : List ℕ} {from at dot : ℕ} (p : Fraction s from at dot) where
   pub fraction-after : {e : ℕ} → Read (cursor e) ≡ groups D at at (drop at s) → After D (D or oneOf "_.") s from at e (behind "1.5")
   fraction-after b = digits-after fraction-run s from (p .reads) through-dot fraction-group b
 
-  -- and what follows them
-  module _ {e : ℕ} (a : After D (D or oneOf "_.") s from at e (behind "1.5")) where
-    pub fraction-e : sees (char "e" or char "E") (drop e s) ≡ true → Exponent s from e
-    unfolding behind rules operators isDigit isHexdigit isIdentifierStart isIdentifierContinue isBlank
-    fraction-e h = record { ordered = a .reads .ordered; e = h; reads = reads-eat (a .reads) (char "e" or char "E") (behind "1e") refl h refl; digits = a .only }
-
-    module _ (m : sees (char "e" or char "E") (drop e s) ≡ false) where
-      fraction-word : sees S (drop e s) ≡ true → Ends s from (moved e s) wordAfterFractionRule
-      unfolding behind rules operators isDigit isHexdigit isIdentifierStart isIdentifierContinue isBlank
-      fraction-word h =
-          reads-stop (reads-eat (a .reads) wordStart (behind "1.5a") refl (except-sees S _ _ h (misses-or _ _ _ (a .line) m)) refl) none wordAfterFractionRule refl refl (misses-none _)
-
-      pub fraction-word-lexed : sees S (drop e s) ≡ true → (r : Lexed) → r ≡ Refused BadFractionalPart dot (e - dot) (cursor from) → Lexes s from r
-      unfolding rules answer isDigit
-      fraction-word-lexed h r f =
-          let x = fraction-word h in
-          let o = p .ordered in
-          let u = a .up in
-          let q = p .next in
-          let k = init-long s from e (omega arith) S h in
-          let m = moved-up s e _ refl in
-          let d = inside-sees (char ".") (oneOf ".") refl (drop dot s) (p .seen) in
-          let j = first-in (D or oneOf "_") (oneOf ".") refl s from dot _ o (omega arith) (ends-in x) (p .digits) d in
-          span-lexes x BadFractionalPart _ _ refl _ _ (omega arith) (omega arith) r f
-
-      pub fraction-ends : sees S (drop e s) ≡ false → Ends s from e floatRule
-      unfolding behind rules operators isDigit isHexdigit isIdentifierStart isIdentifierContinue isBlank
-      fraction-ends h = reads-stop (a .reads) (D or S) floatRule refl refl (misses-or _ _ _ (a .digit) h)
+  pub fraction-word-lexed : {e : ℕ} → After D (D or oneOf "_.") s from at e (behind "1.5") → sees (char "e" or char "E") (drop e s) ≡ false
+      → sees S (drop e s) ≡ true → (r : Lexed) → r ≡ Refused BadFractionalPart dot (e - dot) (cursor from) → Lexes s from r
+  unfolding rules answer isDigit
+  fraction-word-lexed {e} a m h r f =
+      let x = fraction-word a m h in
+      let o = p .ordered in
+      let u = a .up in
+      let q = p .next in
+      let k = init-long s from e (omega arith) S h in
+      let w = moved-up s e _ refl in
+      let d = inside-sees (char ".") (oneOf ".") refl (drop dot s) (p .seen) in
+      let j = first-in (D or oneOf "_") (oneOf ".") refl s from dot _ o (omega arith) (ends-in x) (p .digits) d in
+      span-lexes x BadFractionalPart _ _ refl _ _ (omega arith) (omega arith) r f

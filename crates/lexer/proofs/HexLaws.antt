@@ -109,20 +109,20 @@ module _ {s : List ℕ} {from at : ℕ} (p : Hex s from at) where
     unfolding rules answer
     hex-missing-lexed n r f = let w = p .two in span-lexes (hex-missing n) MalformedHexInteger 0 2 refl _ _ (omega arith) (omega arith) r f
 
-    module _ (n : at ≡ e → ⊥) where
-      hex-word : sees S (drop e s) ≡ true → Ends s from (moved e s) wordAfterHexRule
-      unfolding behind rules operators isDigit isHexdigit isIdentifierStart isIdentifierContinue isBlank
-      hex-word h =
-          let a = hex-after n in
-          reads-stop (reads-eat (a .reads) (S except (H or char "_")) (behind "0x1g") refl (except-sees S _ _ h (misses-or _ _ _ (a .digit) (a .line))) refl)
-          none wordAfterHexRule refl refl (misses-none _)
+-- behind hexadecimal digits
+module _ {s : List ℕ} {from i at : ℕ} (a : After H any s from i at (behind "0x1")) where
+  hex-word : sees S (drop at s) ≡ true → Ends s from (moved at s) wordAfterHexRule
+  unfolding behind rules operators isDigit isHexdigit isIdentifierStart isIdentifierContinue isBlank
+  hex-word h =
+      reads-stop (reads-eat (a .reads) (S except (H or char "_")) (behind "0x1g") refl (except-sees S _ _ h (misses-or _ _ _ (a .digit) (a .line))) refl)
+      none wordAfterHexRule refl refl (misses-none _)
 
-      pub hex-word-lexed : sees S (drop e s) ≡ true → (r : Lexed) → r ≡ Refused BadNumber from (e - from) (cursor from) → Lexes s from r
-      unfolding rules answer
-      hex-word-lexed h r f =
-          let k = init-long s from e (hex-after n .reads .ordered) S h in
-          span-lexes (hex-word h) BadNumber _ _ refl _ _ (omega arith) (omega arith) r f
+  pub hex-word-lexed : sees S (drop at s) ≡ true → (r : Lexed) → r ≡ Refused BadNumber from (at - from) (cursor from) → Lexes s from r
+  unfolding rules answer
+  hex-word-lexed h r f =
+      let k = init-long s from at (a .reads .ordered) S h in
+      span-lexes (hex-word h) BadNumber _ _ refl _ _ (omega arith) (omega arith) r f
 
-      pub hex-ends : sees S (drop e s) ≡ false → Ends s from e integerRule
-      unfolding behind rules operators isDigit isHexdigit isIdentifierStart isIdentifierContinue isBlank
-      hex-ends h = let a = hex-after n in reads-stop (a .reads) (H or S) integerRule refl refl (misses-or _ _ _ (a .digit) h)
+  pub hex-ends : sees S (drop at s) ≡ false → Ends s from at integerRule
+  unfolding behind rules operators isDigit isHexdigit isIdentifierStart isIdentifierContinue isBlank
+  hex-ends h = reads-stop (a .reads) (H or S) integerRule refl refl (misses-or _ _ _ (a .digit) h)

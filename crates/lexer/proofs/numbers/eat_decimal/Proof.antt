@@ -27,7 +27,7 @@ refused-requires c κs =
 enum-known-end : tie.Need-enum-known-end
 enum-known-end c = search needs
 
--- behind the digits, whatever follows
+-- behind the digits, whatever follows; `.given .0 .0` is the cursor `end`
 abbrev entry : tie.After-end → tie.Start
 entry c = c .before .before .before .before
 

@@ -2,6 +2,9 @@
 use native.Mathlib.Omega.{arith}
 use mathlib.Core.Path.{_∙_, sym}
 use borrow.Author.Needs.{needs}
+use Rattle.grammar.specs.Form.{D, _or_, oneOf}
+use Rattle.grammar.proofs.Reading.{behind}
+use Rattle.lexer.proofs.DigitLaws.{After}
 use Rattle.lexer.proofs.NumberLaws.{float-lexed, stuck-lexed}
 use Rattle.lexer.proofs.FractionLaws.{fraction-after, fraction-e, fraction-ends, fraction-stuck, fraction-word-lexed}
 use Rattle.lexer.proofs.numbers.eat_frac.Statement.{statement}
@@ -24,6 +27,14 @@ refused-requires c κs =
 enum-known-end : tie.Need-enum-known-end
 enum-known-end c = search needs
 
+-- behind the digits, whatever follows; `.given .0 .0` is the cursor `end`
+abbrev entry : tie.After-end → tie.Start
+entry c = c .before .before .before .before
+
+digits : (c : tie.After-end)
+    → After D (D or oneOf "_.") (entry c .args .text .now) (entry c .args .start .at) (entry c .args .at .at) (c .end .given .0 .0 .at) (behind "1.5")
+digits c = fraction-after (entry c .pre) (sym (c .end .given .1) ∙ c .before .before .eat-while-number-digit .ensures)
+
 sees-either-requires : tie.Need-sees-either-requires
 sees-either-requires c κs = search needs
 
@@ -31,11 +42,7 @@ eat-expo-requires : tie.Need-eat-expo-requires
 eat-expo-requires c κs =
     let if1 = c .if1 in
     let sees-either = c .before .sees-either in
-    let end = c .before .before .before .end in
-    let eat-while-number-digit = c .before .before .before .before .before .eat-while-number-digit in
-    let pre = c .before .before .before .before .before .before .before .pre in
-    let after = fraction-after pre (sym (end .given .1) ∙ eat-while-number-digit .ensures) in
-    fraction-e pre after (sym (sees-either .ensures) ∙ if1 .taken)
+    fraction-e (digits (c .before .before .before)) (sym (sees-either .ensures) ∙ if1 .taken)
 
 returns : tie.Need-returns
 returns c = c .eat-expo .ensures
@@ -45,10 +52,8 @@ sees-start-requires c κs = search needs
 
 refused-requires-2 : tie.Need-refused-requires-2
 refused-requires-2 c κs =
-    let end = c .before .before .before .before .before .end in
-    let eat-while-number-digit = c .before .before .before .before .before .before .before .eat-while-number-digit in
     let pre = c .before .before .before .before .before .before .before .before .before .pre in
-    let after = fraction-after pre (sym (end .given .1) ∙ eat-while-number-digit .ensures) in
+    let after = digits (c .before .before .before .before .before) in
     omega (arith, after .up, pre .next)
 
 returns-2 : tie.Need-returns-2
@@ -58,18 +63,12 @@ returns-2 c =
     let sees-start = c .before .before .sees-start in
     let if1 = c .before .before .before .if1 in
     let sees-either = c .before .before .before .before .sees-either in
-    let end = c .before .before .before .before .before .before .end in
-    let eat-while-number-digit = c .before .before .before .before .before .before .before .before .eat-while-number-digit in
     let pre = c .before .before .before .before .before .before .before .before .before .before .pre in
-    let after = fraction-after pre (sym (end .given .1) ∙ eat-while-number-digit .ensures) in
+    let after = digits (c .before .before .before .before .before .before) in
     fraction-word-lexed pre after (sym (sees-either .ensures) ∙ if1 .left) (sym (sees-start .ensures) ∙ if2 .taken) _ (refused2 .ensures)
 
 token-requires : tie.Need-token-requires
-token-requires c κs =
-    let end = c .before .before .before .before .before .end in
-    let eat-while-number-digit = c .before .before .before .before .before .before .before .eat-while-number-digit in
-    let pre = c .before .before .before .before .before .before .before .before .before .pre in
-    fraction-after pre (sym (end .given .1) ∙ eat-while-number-digit .ensures) .reads .ordered
+token-requires c κs = digits (c .before .before .before .before .before) .reads .ordered
 
 returns-3 : tie.Need-returns-3
 returns-3 c =
@@ -84,13 +83,8 @@ returns-4 c =
     let token = c .token in
     let if2 = c .before .if2 in
     let sees-start = c .before .before .sees-start in
-    let if1 = c .before .before .before .if1 in
-    let sees-either = c .before .before .before .before .sees-either in
-    let end = c .before .before .before .before .before .before .end in
-    let eat-while-number-digit = c .before .before .before .before .before .before .before .before .eat-while-number-digit in
-    let pre = c .before .before .before .before .before .before .before .before .before .before .pre in
-    let after = fraction-after pre (sym (end .given .1) ∙ eat-while-number-digit .ensures) in
-    float-lexed (fraction-ends pre after (sym (sees-either .ensures) ∙ if1 .left) (sym (sees-start .ensures) ∙ if2 .left)) _ (token .ensures)
+    let after = digits (c .before .before .before .before .before .before) in
+    float-lexed (fraction-ends after (sym (sees-start .ensures) ∙ if2 .left)) _ (token .ensures)
 
 pub eat-frac-spec : {M : Type 1} → statement M
 eat-frac-spec =

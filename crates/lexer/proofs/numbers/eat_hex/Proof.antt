@@ -2,6 +2,9 @@
 use native.Mathlib.Omega.{arith}
 use mathlib.Core.Path.{_∙_, sym}
 use borrow.Author.Needs.{needs}
+use Rattle.grammar.specs.Form.{H, any}
+use Rattle.grammar.proofs.Reading.{behind}
+use Rattle.lexer.proofs.DigitLaws.{After}
 use Rattle.lexer.proofs.NumberLaws.{integer-lexed}
 use Rattle.lexer.proofs.HexLaws.{hex-after, hex-bad-lexed, hex-ends, hex-missing-lexed, hex-span, hex-word-lexed}
 use Rattle.lexer.proofs.numbers.eat_hex.Statement.{statement}
@@ -38,36 +41,32 @@ returns c =
     let pre = c .before .before .before .before .before .before .before .before .before .pre in
     hex-missing-lexed pre (sym (end .given .1) ∙ eat-while-number-hexdigit .ensures) (if1 .taken) _ (refused2 .ensures)
 
+-- behind the digits, of which there are some; `.given .0 .0` is the cursor `end`
+abbrev entry : tie.Else1 → tie.Start
+entry c = c .before .before .before .before .before .before .before .before
+
+abbrev read : tie.Else1 → tie.After-end
+read c = c .before .before .before .before
+
+digits : (c : tie.Else1)
+    → After H any (entry c .args .text .now) (entry c .args .start .at) (entry c .args .at .at) (read c .end .given .0 .0 .at) (behind "0x1")
+digits c = hex-after (entry c .pre) (sym (read c .end .given .1) ∙ read c .before .before .eat-while-number-hexdigit .ensures) (c .if1 .left)
+
 sees-start-requires : tie.Need-sees-start-requires
 sees-start-requires c κs = search needs
 
 refused-requires-3 : tie.Need-refused-requires-3
-refused-requires-3 c κs =
-    let if1 = c .before .before .if1 in
-    let end = c .before .before .before .before .before .before .end in
-    let eat-while-number-hexdigit = c .before .before .before .before .before .before .before .before .eat-while-number-hexdigit in
-    let pre = c .before .before .before .before .before .before .before .before .before .before .pre in
-    hex-after pre (sym (end .given .1) ∙ eat-while-number-hexdigit .ensures) (if1 .left) .reads .ordered
+refused-requires-3 c κs = digits (c .before .before) .reads .ordered
 
 returns-2 : tie.Need-returns-2
 returns-2 c =
     let refused3 = c .refused3 in
     let if2 = c .before .if2 in
     let sees-start = c .before .before .sees-start in
-    let if1 = c .before .before .before .if1 in
-    let end = c .before .before .before .before .before .before .before .end in
-    let eat-while-number-hexdigit = c .before .before .before .before .before .before .before .before .before .eat-while-number-hexdigit in
-    let pre = c .before .before .before .before .before .before .before .before .before .before .before .pre in
-    let read = sym (end .given .1) ∙ eat-while-number-hexdigit .ensures in
-    hex-word-lexed pre read (if1 .left) (sym (sees-start .ensures) ∙ if2 .taken) _ (refused3 .ensures)
+    hex-word-lexed (digits (c .before .before .before)) (sym (sees-start .ensures) ∙ if2 .taken) _ (refused3 .ensures)
 
 token-requires : tie.Need-token-requires
-token-requires c κs =
-    let if1 = c .before .before .if1 in
-    let end = c .before .before .before .before .before .before .end in
-    let eat-while-number-hexdigit = c .before .before .before .before .before .before .before .before .eat-while-number-hexdigit in
-    let pre = c .before .before .before .before .before .before .before .before .before .before .pre in
-    hex-after pre (sym (end .given .1) ∙ eat-while-number-hexdigit .ensures) (if1 .left) .reads .ordered
+token-requires c κs = digits (c .before .before) .reads .ordered
 
 returns-3 : tie.Need-returns-3
 returns-3 c =
@@ -82,12 +81,7 @@ returns-4 c =
     let token = c .token in
     let if2 = c .before .if2 in
     let sees-start = c .before .before .sees-start in
-    let if1 = c .before .before .before .if1 in
-    let end = c .before .before .before .before .before .before .before .end in
-    let eat-while-number-hexdigit = c .before .before .before .before .before .before .before .before .before .eat-while-number-hexdigit in
-    let pre = c .before .before .before .before .before .before .before .before .before .before .before .pre in
-    let read = sym (end .given .1) ∙ eat-while-number-hexdigit .ensures in
-    integer-lexed (hex-ends pre read (if1 .left) (sym (sees-start .ensures) ∙ if2 .left)) _ (token .ensures)
+    integer-lexed (hex-ends (digits (c .before .before .before)) (sym (sees-start .ensures) ∙ if2 .left)) _ (token .ensures)
 
 pub eat-hex-spec : {M : Type 1} → statement M
 eat-hex-spec =
