@@ -1,6 +1,8 @@
 -- `lexer::numbers::eat_dot_after_digits` meets its contract. Assumes nothing.
 use mathlib.Core.Path.{_∙_, sym}
 use borrow.Author.Needs.{needs}
+use Rattle.grammar.proofs.RulePlaces.{floatRule}
+use Rattle.grammar.proofs.Reading.{Ends}
 use Rattle.lexer.proofs.NumberLaws.{float-lexed}
 use Rattle.lexer.proofs.FractionLaws.{dot-e, dot-ends, dot-fraction}
 use Rattle.lexer.proofs.numbers.eat_dot_after_digits.Statement.{statement}
@@ -37,26 +39,22 @@ eat-expo-requires c κs =
 returns-2 : tie.Need-returns-2
 returns-2 c = c .eat-expo .ensures
 
-token-requires : tie.Need-token-requires
-token-requires c κs =
+-- the lexeme ends there: so the span is in order, and it is what the text gives
+plain : (c : tie.Else2) → Ends (c .before .before .before .before .before .before .args .text .now) (c .before .before .before .before .before .before .args .start .at) (c .before .before .before .before .eat .result .at) floatRule
+plain c =
     let if2 = c .if2 in
     let sees-either = c .before .sees-either in
     let if1 = c .before .before .if1 in
     let sees-digit = c .before .before .before .sees-digit in
     let eat = c .before .before .before .before .eat in
     let pre = c .before .before .before .before .before .before .pre in
-    dot-ends pre (eat .ensures) (sym (sees-digit .ensures) ∙ if1 .left) (sym (sees-either .ensures) ∙ if2 .left) .ordered
+    dot-ends pre (eat .ensures) (sym (sees-digit .ensures) ∙ if1 .left) (sym (sees-either .ensures) ∙ if2 .left)
+
+token-requires : tie.Need-token-requires
+token-requires c κs = plain c .ordered
 
 returns-3 : tie.Need-returns-3
-returns-3 c =
-    let token = c .token in
-    let if2 = c .before .if2 in
-    let sees-either = c .before .before .sees-either in
-    let if1 = c .before .before .before .if1 in
-    let sees-digit = c .before .before .before .before .sees-digit in
-    let eat = c .before .before .before .before .before .eat in
-    let pre = c .before .before .before .before .before .before .before .pre in
-    float-lexed (dot-ends pre (eat .ensures) (sym (sees-digit .ensures) ∙ if1 .left) (sym (sees-either .ensures) ∙ if2 .left)) _ (token .ensures)
+returns-3 c = float-lexed (plain (c .before)) _ (c .token .ensures)
 
 pub eat-dot-after-digits-spec : {M : Type 1} → statement M
 eat-dot-after-digits-spec =
