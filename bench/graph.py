@@ -31,7 +31,7 @@ def functions(assembly):
             now = found[begun[1]]
         elif size := re.match(r'\s\.section\s+\.stack_sizes,.*\.text\.([^"\s]+)', line):
             found[size[1]].frame = unsigned(lines[i + 2].strip())
-        elif (jump := JUMP.match(line)) and (jump[1] in CALLS or jump[2] in found):
+        elif (jump := JUMP.match(line)) and (jump[1] in CALLS or not jump[2].startswith((".L", "*", "#"))):
             (now.calls if jump[1] in CALLS else now.tail_calls).add(jump[2])
         elif now:
             now.below = max([now.below] + [int(n) for n in re.findall(r"\s-(\d+)\(%rsp", line)])
@@ -53,7 +53,7 @@ def bound(found, name, pushed, above=()):
 
 def elsewhere(found):
     """What is called and is not in the library: functions of the C library, and calls through a pointer."""
-    return set().union(*(function.calls for function in found.values())) - set(found)
+    return set().union(*(function.calls | function.tail_calls for function in found.values())) - set(found)
 
 
 def reached(found, name, seen=frozenset()):

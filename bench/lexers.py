@@ -54,6 +54,7 @@ def of_list(machine):
 
 @functools.cache
 def rust(machine, folder, memchr, *flags):
+    need("cc", "Debian: gcc")  # links the keyword macro
     if machine is M4 and not RUSTC_FOR_M4.exists():
         raise Missing("a compiler with its core library's source is not here (bench/setup unpacks one)")
     if machine is X86:

@@ -39,7 +39,7 @@ def stacks(machine):
         figure = lambda n: f"{n:,}" if n else "-"
         print(f"{entry:18} bound {figure(size):>5}  used {figure(used.get(entry)):>5}   {' > '.join(chain)}".rstrip())
     if unknown := graph.elsewhere(functions(machine)):
-        print(f"not counted, since they are not in the library: {', '.join(sorted(unknown))}")
+        raise SystemExit(f"bench: FAIL: there is no bound on the stack, since these are not in the library: {', '.join(sorted(unknown))}")
     return max(size for size, _ in bounds.values())
 
 

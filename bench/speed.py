@@ -50,6 +50,13 @@ def same_lists():
     print(f"List and the Rust wrote the same records of {len(KINDS_OF_TEXT)} texts: kinds by name, starts, lengths")
 
 
+def can_build(machine, lexer):
+    try:
+        return program(machine, lexer)
+    except Missing:
+        return None
+
+
 def present(machine, lexers):
     """List, and those of the other lexers that can be built here."""
     there = []
@@ -68,8 +75,9 @@ def instructions(machine, lexers):
     print(f"{'text':12}{'records':>8}" + "".join(f"{lexer:>10}" for lexer in lexers))
     for name in KINDS_OF_TEXT:
         numbers = {lexer: len(records(machine, lexer, name)) for lexer in lexers}
-        if machine is M4 and any(records(M4, lexer, name) != records(X86, lexer, name) for lexer in lexers):
-            raise SystemExit(f"bench: FAIL: records of the text {name} differ between the two machines")
+        for lexer in lexers:
+            if machine is M4 and can_build(X86, lexer) and records(M4, lexer, name) != records(X86, lexer, name):
+                raise SystemExit(f"bench: FAIL: records of the text {name} differ between the two machines")
         a_byte = "".join(f"{total(machine, lexer, name) / length(name):10.2f}" for lexer in lexers)
         others = [f"{lexer}: {n:,} records" for lexer, n in numbers.items() if n != numbers[lexers[0]]]
         print(f"{name:12}{numbers[lexers[0]]:8,}{a_byte}  {'; '.join(others)}".rstrip())

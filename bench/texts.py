@@ -1,7 +1,7 @@
 #!/usr/bin/env python3
 """bench/texts.py FOLDER: writes the texts that are measured, the same bytes on every machine. None of them has anything that is refused.
 
-sync.sql is what a sports watch gets from its phone: routes, waypoints and settings. grow1, grow2 and grow4 are one such text of 16,000
+sync.sql is like what a device gets from its phone: routes, waypoints and settings. grow1, grow2 and grow4 are one such text of 16,000
 bytes once, twice and four times, so that they differ in length alone. The others are of one kind of token each.
 """
 import hashlib

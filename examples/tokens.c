@@ -1,6 +1,6 @@
 /*
  * Prints the tokens of a text as the program sqllex does: a line for each with its kind, start and length, then how it ended.
- * tokens [FILE] reads FILE, or standard input. It keeps the text and one short list, and no heap.
+ * tokens [FILE] reads FILE, or standard input. It keeps the text and one short list in static memory; the library uses no heap.
  *
  *     rt staticlib capi
  *     cc -Iinclude -o tokens examples/tokens.c target/staticlib/libcapi.a

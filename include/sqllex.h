@@ -1,5 +1,5 @@
 /*
- * sqllex.h: a SQL lexer for C and C++. examples/tokens.c uses it; examples/tokens.rs has the same calls in Rust.
+ * sqllex.h: a SQL lexer for C and C++. examples/tokens.c calls sqllex_list_from, examples/tokens.rs sqllex_next from Rust.
  *
  * Declares the calls of target/staticlib/libcapi.a, which `rt staticlib capi` proves and builds from crates/capi. The archive is
  * code for x86-64 Linux, needs no other library, and follows that system's calling convention, SSE registers and the red zone
@@ -28,7 +28,8 @@
 
 /*
  * What a call says beside its status. A call writes all four, whatever the status. `start` and `length` are a span of the text in
- * bytes; places count from the text's first byte, wherever lexing began. `next` is the offset to go on from.
+ * bytes; places count from the text's first byte, wherever lexing began. `next` is the offset to go on from after a find or a full
+ * list; after a refusal see each call.
  */
 typedef struct sqllex_answer {
     size_t value; /* the kind (next), the number of records (list_from), whether tokens came (cut) */
@@ -299,9 +300,9 @@ extern "C" {
  *     1 to 7                   0      of the span  of the span  offset, or start + length
  *     SQLLEX_OFFSET_PAST_END   0      0            0            offset
  *
- * After a refusal `next` is the offset given, so that a call there refuses again; to go on behind the refused bytes, call at
- * start + length, which is greater than the offset. Only where the first byte begins no lexeme at all, as `{` does, is `next`
- * itself start + length; the status is then SQLLEX_UNRECOGNIZED_TOKEN.
+ * After a refusal of 1 to 7 `next` is the offset given, so that a call there refuses again; to go on behind the refused bytes, call
+ * at start + length, which is greater than the offset. Only where the first byte begins no lexeme at all, as `{` does, is `next`
+ * itself start + length; the status is then SQLLEX_UNRECOGNIZED_TOKEN. Past the end there is nothing to go on with.
  */
 uint32_t sqllex_next(const uint8_t *text, size_t text_length, size_t offset, sqllex_answer *answer);
 
@@ -317,8 +318,8 @@ uint32_t sqllex_next(const uint8_t *text, size_t text_length, size_t offset, sql
  *     SQLLEX_LIST_FULL         records  next         0            of the token that has no place
  *
  * SQLLEX_TOO_LONG, for a text of more than SQLLEX_LONGEST_TEXT bytes, comes before any other. SQLLEX_LIST_FULL comes only where a token
- * is left and fewer than three numbers are: take the records out, and call again from `next` with the same list. (One of fewer
- * than three numbers is always full.)
+ * is left and fewer than three numbers are: take the records out, and call again from `next` with the same list. (A list of
+ * fewer than three numbers takes no token: with it this would not end.)
  */
 uint32_t sqllex_list_from(const uint8_t *text, size_t text_length, size_t offset, uint32_t *list, size_t list_length,
                           sqllex_answer *answer);
@@ -330,7 +331,8 @@ uint32_t sqllex_list_from(const uint8_t *text, size_t text_length, size_t offset
 uint64_t sqllex_list(const uint8_t *text, size_t text_length, uint32_t *list, size_t list_length);
 
 /*
- * The statement from an offset on, up to and with its semicolon; one inside a string, a quoted name or a comment does not count.
+ * The statement from an offset on, up to and with its semicolon. Only a semicolon that is a token counts, none inside a string, a
+ * quoted name, a comment or a parameter's `(..)`.
  *
  *     status                   value   start        length        next
  *     SQLLEX_CUT               0 or 1  offset       to behind ;   start + length

@@ -152,6 +152,8 @@ static uint32_t call_list(size_t offset, size_t length, uint32_t **list, sqllex_
         require(records == said->value, "sqllex_list and sqllex_list_from count otherwise");
         require(memcmp(first, *list, size) == 0, "sqllex_list and sqllex_list_from write otherwise");
     }
+    for (size_t i = SQLLEX_RECORD_WIDTH * said->value; i < length; i++)
+        require((*list)[i] == OLD, "a number behind the records was written");
     return status;
 }
 

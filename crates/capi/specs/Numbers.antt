@@ -22,19 +22,20 @@ ofAnswer value (end offset) = five 0 value offset 0 offset
 ofAnswer value (refusal number start n offset) = five number value start n offset
 
 -- of Next the value is the kind, 0 where there is no token
-abbrev pub kindIn : Answer → ℕ
-kindIn (token kind start n next) = kind
-kindIn (end offset) = 0
-kindIn (refusal number start n offset) = 0
+abbrev pub kindGiven : Answer → ℕ
+kindGiven (token kind start n next) = kind
+kindGiven (end offset) = 0
+kindGiven (refusal number start n offset) = 0
 
 abbrev pub ofNext : Lexed → Numbers
-ofNext r = ofAnswer (kindIn (valuesOf r)) (valuesOf r)
+ofNext r = ofAnswer (kindGiven (valuesOf r)) (valuesOf r)
 
 -- of List the number of records
 abbrev pub ofList : Listed → Numbers
 ofList r = ofAnswer (recordsIn r) (answerOf r)
 
--- of the cut 1 if a token that is not TK_NONE was met, else or where it is refused 0; a cut has status 101, Open 102
+-- of the cut 1 where a token that is not TK_NONE came before the semicolon or the end, else 0, and 0 for a refusal; a cut has status 101,
+-- Open 102
 abbrev pub ofCutAnswer : CutAnswer → Numbers
 ofCutAnswer (cut start n any offset) = five 101 (cond any 1 0) start n offset
 ofCutAnswer (opened start n offset) = five 102 1 start n offset

@@ -22,14 +22,14 @@ use Rattle.lexer.proofs.Moves.{moves}
 use Rattle.lexer.proofs.Theorems.{unique, Tells}
 use Rattle.reader.specs.declared.Reader.{Reader}
 use Rattle.reader.specs.declared.Read.{Read}
-use Rattle.reader.specs.Reads.{Remains, Reads, offsetOf}
+use Rattle.reader.specs.Reads.{Remains, ReadsOn, offsetOf}
 
 same-read : {a b : Lexed} {s t : RefT (List ℕ)} {m n : ℕ} → a ≡ b → s ≡ t → m ≡ n
     → _≡_ {A = Read} (record { lexed = a; reader = record { text = s; offset = m } }) (record { lexed = b; reader = record { text = t; offset = n } })
 same-read e p o i = record { lexed = e i; reader = record { text = p i; offset = o i } }
 
 -- The contract of `next` leaves one result: the answer, and the reader moved.
-pub next-unique : (d : Reader) (r q : Read) → Reads d r → Reads d q → r ≡ q
+pub next-unique : (d : Reader) (r q : Read) → ReadsOn d r → ReadsOn d q → r ≡ q
 next-unique d r q x y =
     let e = unique (now (d .text)) (d .offset) (r .lexed) (q .lexed) (x .answers) (y .answers) in
     same-read e (x .same-text ∙ sym (y .same-text)) (x .goes-on ∙ ap offsetOf e ∙ sym (y .goes-on))
@@ -57,7 +57,7 @@ remaining-unique text offset r q x y = (λ i. (block i, at i), bytes)
 pub past-end : (d : Reader) → length (now (d .text)) < d .offset
     → ((r : RefT (List ℕ)) → Remains (d .text) (d .offset) r → now r ≡ []) ×
     (head (drop (d .offset) (now (d .text))) ≡ Nothing) ×
-    ((r : Read) → Reads d r → (valuesOf (r .lexed) ≡ refusal 8 0 0 (d .offset)) × (r .reader ≡ d))
+    ((r : Read) → ReadsOn d r → (valuesOf (r .lexed) ≡ refusal 8 0 0 (d .offset)) × (r .reader ≡ d))
 unfolding Lexes
 past-end d past = (
   λ r x. x .bytes ∙ drop-of-length-le (now (d .text)) {i = d .offset} (omega arith),
@@ -68,12 +68,12 @@ past-end d past = (
     refused : Read
     refused = record { lexed = Refused OffsetPastEnd 0 0 (cursor (d .offset)); reader = d }
 
-    refuses : Reads d refused
+    refuses : ReadsOn d refused
     refuses = record { answers = inl (past, refl); same-text = refl; goes-on = refl }
 
 -- Where `lexer::next`, asked again where each answer goes on, answers a row of answers, `next` gives the first, and with the reader that it
 -- hands back the others: so with a reader too the rows of the grammar's table hold (`table-lexed`).
-pub walks-on : (d : Reader) (r : Read) (a : Answer) (l : List Answer) → Reads d r → Tells (now (d .text)) (d .offset) (a ∷ l)
+pub walks-on : (d : Reader) (r : Read) (a : Answer) (l : List Answer) → ReadsOn d r → Tells (now (d .text)) (d .offset) (a ∷ l)
     → (valuesOf (r .lexed) ≡ a) × Tells (now (r .reader .text)) (r .reader .offset) l
 walks-on d r a l x t = (first, subst₂ (λ (s : List ℕ) (at : ℕ). Tells s at l) (ap now (sym (x .same-text))) there (t .1))
   where
@@ -89,7 +89,7 @@ walks-on d r a l x t = (first, subst₂ (λ (s : List ℕ) (at : ℕ). Tells s a
     there = ap offset (sym first) ∙ goes-there (r .lexed) ∙ sym (x .goes-on)
 
 -- The reader behind a token stands behind the one given, and inside the text or at its end.
-pub moves-on : (d : Reader) (k start n : ℕ) (next : Cursor) (r : Reader) → Reads d (record { lexed = Token k start n next; reader = r })
+pub moves-on : (d : Reader) (k start n : ℕ) (next : Cursor) (r : Reader) → ReadsOn d (record { lexed = Token k start n next; reader = r })
     → (d .offset < r .offset) × (r .offset ≤ length (now (d .text)))
 moves-on d k start n next r x =
     let m = moves (now (d .text)) (d .offset) k start n next (x .answers) in

@@ -11,8 +11,8 @@ use Rattle.reader.specs.declared.Reader.{Reader}
 use Rattle.reader.specs.declared.Read.{Read}
 
 -- a reader begins at its text's start
-abbrev pub start : RefT (List ℕ) → Reader
-start text = record { text = text; offset = 0 }
+abbrev pub begun : RefT (List ℕ) → Reader
+begun text = record { text = text; offset = 0 }
 
 -- r has the bytes from an offset of the text on, none past the end. It lies in the text's memory and ends where the text ends.
 pub record Remains (text : RefT (List ℕ)) (offset : ℕ) (r : RefT (List ℕ)) : Type 0 where
@@ -27,7 +27,7 @@ offsetOf (End next) = next .at
 offsetOf (Refused why start length next) = next .at
 
 -- what `next` gives for a reader: the answer of document 01 at its offset, and a reader of the same text at the offset that it leaves
-pub record Reads (reader : Reader) (r : Read) : Type 0 where
+pub record ReadsOn (reader : Reader) (r : Read) : Type 0 where
   pub answers : Lexes (now (reader .text)) (reader .offset) (r .lexed)
   pub same-text : r .reader .text ≡ reader .text
   pub goes-on : r .reader .offset ≡ offsetOf (r .lexed)

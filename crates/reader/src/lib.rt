@@ -7,7 +7,7 @@ ghost use mathlib.Core.Path.{_≡_};
 ghost use lib.ListN.{drop};
 ghost use Rattle.lexer.specs.Eaten.{head};
 ghost use Rattle.lexer.specs.Values.{Lexes};
-ghost use Rattle.reader.specs.Reads.{Reads, Remains, offsetOf, start};
+ghost use Rattle.reader.specs.Reads.{ReadsOn, Remains, offsetOf, begun};
 
 // The offset may be any number.
 pub struct Reader<'a> {
@@ -23,7 +23,7 @@ pub struct Read<'a> {
 
 impl<'a> Reader<'a> {
     pub fn new(text: &'a [u8]) -> Reader<'a>
-        ensures { λ r. ⌜ r ≡ start (text .entry) ⌝ }
+        ensures { λ r. ⌜ r ≡ begun (text .entry) ⌝ }
     {
         Reader { text, offset: 0 }
     }
@@ -42,7 +42,7 @@ impl<'a> Reader<'a> {
     }
 
     pub fn next(self) -> Read<'a>
-        ensures { λ r. ⌜ Reads (self .entry) r ⌝ }
+        ensures { λ r. ⌜ ReadsOn (self .entry) r ⌝ }
     {
         let moved = next_at(self.text, self.offset);
         Read {

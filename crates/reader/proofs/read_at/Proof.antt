@@ -45,7 +45,7 @@ use Rattle.lexer.proofs.lexed.Lexed as S
 use Rattle.lexer.proofs.lexed.Lexed.Laws as S′
 use Rattle.reader.specs.declared.Reader.{Reader}
 use Rattle.reader.specs.declared.Read.{Read}
-use Rattle.reader.specs.Reads.{Reads}
+use Rattle.reader.specs.Reads.{ReadsOn}
 use Rattle.reader.proofs.Reader.Laws as T′
 use Rattle.reader.proofs.Read as R
 use Rattle.reader.proofs.Read.Laws as R′
@@ -102,8 +102,8 @@ module _ {M : Type 1} (𝓤 : URA M) (H : Heap 𝓤) (A : Atoms 𝓤) (W : Given
       move ! (1 ∷ []) $ use1 W (‵ (Own κ d)) (own-shut 𝓤 H A W (D κ) (L κ) (s, (n, tt))) $ use1 W (‵ (Own κ d) ⊛ ‵ (Own κ d)) (LL.copy (D κ) (T′.the-copy α) 𝓤 H A W .twice d (mach ∷ [])) $ split ! $
       nothing ! $ move ! (1 ∷ 0 ∷ []) $ fjoin ! $ move ! (2 ∷ 0 ∷ []) $ use2 W (raw (Next 𝓤 H A mem run .pre to)) asked $ frame ! $ done !
 
-  said : (r : Read) → ent 𝓤 (ensured 𝓤 H A next.ended (next.clauses 𝓤 H A mem run) (κ, tt) (d, tt) tt r) (fact 𝓤 (Reads d r))
-  said r = exE 𝓤 _ (λ ws. snd∗ 𝓤 (sem 𝓤 H A (lasts next.ended (κ, tt) (d, tt) ws)) (fact 𝓤 (Reads d r)))
+  said : (r : Read) → ent 𝓤 (ensured 𝓤 H A next.ended (next.clauses 𝓤 H A mem run) (κ, tt) (d, tt) tt r) (fact 𝓤 (ReadsOn d r))
+  said r = exE 𝓤 _ (λ ws. snd∗ 𝓤 (sem 𝓤 H A (lasts next.ended (κ, tt) (d, tt) ws)) (fact 𝓤 (ReadsOn d r)))
 
   -- what `next` gives: what it owns, its machine value, and the answer's in it
   abbrev ReadT : RattleType
@@ -118,7 +118,7 @@ module _ {M : Type 1} (𝓤 : URA M) (H : Heap 𝓤) (A : Atoms 𝓤) (W : Given
   abbrev low : Read → Val
   low r = vstruct (vcons (answer r) (vcons (T′.lowered (r .reader)) vnil))
 
-  exits : (r : Read) → Reads d r → ent 𝓤 (⋆ 𝓤 H A (‵ (parts r) ∷ (‵ (flft κ q) ⊛ ‵ ftrue) ∷ ‵ (Own κ d) ∷ [])) (Post (answer r))
+  exits : (r : Read) → ReadsOn d r → ent 𝓤 (⋆ 𝓤 H A (‵ (parts r) ∷ (‵ (flft κ q) ⊛ ‵ ftrue) ∷ ‵ (Own κ d) ∷ [])) (Post (answer r))
   exits r e =
       qed W (‵ (parts r) ∷ (‵ (flft κ q) ⊛ ‵ ftrue) ∷ ‵ (Own κ d) ∷ []) ∵
       suffices ! _ (ends-at 𝓤 H A read-at.ended stayed (read-at.clauses 𝓤 H A mem run) W (((κ, tt), (q, tt), tt, (s, (n, tt)), passed d), tt) (answer r) (r .lexed) (tt, (tt, tt)) (tt, (tt, tt))) $ says ! (e .answers) $
@@ -136,7 +136,7 @@ module _ {M : Type 1} (𝓤 : URA M) (H : Heap 𝓤) (A : Atoms 𝓤) (W : Given
         move ! (10 ∷ []) $ use1 W (raw (Next 𝓤 H A mem run .pre to) ⊛ ‵ (Own κ d)) goes-next $ split ! $
         calls-at ! fm (Next 𝓤 H A mem run) known to (and-then ! (load ! (from ! (stop !)) (look ! 2 refl)) (no-more !)) (λ u.
         use1 W (later (some (λ (r : Read). ((‵ (flft κ q) ⊛ ‵ ftrue) ⊛ ‵ (ReadT .own r (u ∷ []))) ⊛ raw (ensured 𝓤 H A next.ended (next.clauses 𝓤 H A mem run) (κ, tt) (d, tt) tt r)))) (id⊢ 𝓤 _) $ await ! tt $ pick ! (λ r.
-        split ! $ move ! (1 ∷ []) $ use1 W (raw (fact 𝓤 (Reads d r))) (said r) $ heard ! (Reads d r) (λ e. split ! $ move ! (1 ∷ []) $
+        split ! $ move ! (1 ∷ []) $ use1 W (raw (fact 𝓤 (ReadsOn d r))) (said r) $ heard ! (ReadsOn d r) (λ e. split ! $ move ! (1 ∷ []) $
         -- [what the result of `next` owns; the token; what the reader owns; _4; …; room for _3; …; _2; …; _1; …; room for _0; …]
         peeks ! ReadT (Is ReadT) (shows 𝓤 H A ReadT) r (u ∷ []) (λ is.
         land ! (from ! (stop !)) (init ! 5 refl (LL.lawful (R.the-type αᵉ) (R′.the-laws αᵉ) 𝓤 H A W .typed r _ is .0)) $
