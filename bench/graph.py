@@ -5,7 +5,7 @@ import re
 
 NAME = r'"?([^\s",]+)"?'
 FUNCTION = re.compile(rf"(?m)^\s\.type\s+{NAME},[@%]function")
-JUMP = re.compile(rf"^\s(call\w*|bl|blx|j\w+|b[\w.]*)\s+{NAME}")
+JUMP = re.compile(rf"^\s(call\w*|bl|blx|j\w+|b(?:eq|ne|hs|lo|mi|pl|vs|vc|hi|ls|ge|lt|gt|le)?(?:\.[wn])?)\s+{NAME}")
 CALLS = "call", "callq", "bl", "blx"
 
 
@@ -31,7 +31,7 @@ def functions(assembly):
             now = found[begun[1]]
         elif size := re.match(r'\s\.section\s+\.stack_sizes,.*\.text\.([^"\s]+)', line):
             found[size[1]].frame = unsigned(lines[i + 2].strip())
-        elif (jump := JUMP.match(line)) and (jump[1] in CALLS or not jump[2].startswith((".L", "*", "#"))):
+        elif (jump := JUMP.match(line)) and (jump[1] in CALLS or not jump[2].startswith((".L", "*"))):
             (now.calls if jump[1] in CALLS else now.tail_calls).add(jump[2])
         elif now:
             now.below = max([now.below] + [int(n) for n in re.findall(r"\s-(\d+)\(%rsp", line)])
