@@ -43,11 +43,14 @@ abbrev pub passed : Reader → List Val × (List Val × Unit {0})
 passed d = (sliceVal (d .text .ptr) (length (d .text .now)) ∷ [], (vint w64 (d .offset) ∷ [], tt))
 
 module _ {M : Type 1} (𝓤 : URA M) (H : Heap 𝓤) (A : Atoms 𝓤) (κ : Lft) (q : Share) (d : Reader) where
-  pub apart : Given 𝓤 H A → (P : SProp 𝓤) → ent 𝓤 (⋆ 𝓤 H A ((‵ (flft κ q) ⊛ ‵ ftrue) ∷ ‵ (owns (ShrSlice (named 0) κ u8 ∷ usize ∷ []) (d .text, (d .offset, tt)) (passed d)) ∷ [])) P
+  pub apart : Given 𝓤 H A → (P : SProp 𝓤) → ent 𝓤
+      (⋆ 𝓤 H A ((‵ (flft κ q) ⊛ ‵ ftrue) ∷ ‵ (owns (ShrSlice (named 0) κ u8 ∷ usize ∷ []) (d .text, (d .offset, tt)) (passed d)) ∷ [])) P
       → ent 𝓤 (⋆ 𝓤 H A ((‵ (flft κ q) ⊛ ‵ ftrue) ∷ ‵ (owns (B (κ, tt) ∷ []) (d, tt) (T′.lowered d ∷ [], tt)) ∷ [])) (sep 𝓤 P (sem 𝓤 H A (Own κ d)))
   apart W P asked =
       qed W ((‵ (flft κ q) ⊛ ‵ ftrue) ∷ ‵ (owns (B (κ, tt) ∷ []) (d, tt) (T′.lowered d ∷ [], tt)) ∷ []) ∵
-      move ! (1 ∷ []) $ fsplit ! $ move ! (1 ∷ []) $ drop ! $ use1 W (‵ (Own κ d) ⊛ ‵ (Own κ d)) (LL.copy (D κ) (T′.the-copy (namedLft 1 0 tt (κ, tt))) 𝓤 H A W .twice d (T′.lowered d ∷ [])) $ split ! $
-      use1 W (given (T′.lowered d ∷ [] ≡ T′.lowered d ∷ []) (‵ (all-own (D κ .parts) (L κ) (d .text, (d .offset, tt))))) (own-open 𝓤 H A W (D κ) (L κ) (d .text, (d .offset, tt)) (T′.lowered d)) $ learn ! (λ _.
+      move ! (1 ∷ []) $ fsplit ! $ move ! (1 ∷ []) $ drop ! $
+      use1 W (‵ (Own κ d) ⊛ ‵ (Own κ d)) (LL.copy (D κ) (T′.the-copy (namedLft 1 0 tt (κ, tt))) 𝓤 H A W .twice d (T′.lowered d ∷ [])) $ split ! $
+      use1 W (given (T′.lowered d ∷ [] ≡ T′.lowered d ∷ []) (‵ (all-own (D κ .parts) (L κ) (d .text, (d .offset, tt)))))
+      (own-open 𝓤 H A W (D κ) (L κ) (d .text, (d .offset, tt)) (T′.lowered d)) $ learn ! (λ _.
       -- [what the fields own; what the reader owns; the token]
       move ! (2 ∷ 0 ∷ []) $ use2 W (raw P) asked $ frame ! $ done !)

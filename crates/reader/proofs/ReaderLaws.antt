@@ -16,7 +16,8 @@ part-remains text offset at name inside e =
     record {
       bytes = whole ∙ e;
       block = refl;
-      ends = let n : length (take (length (now text) - at) (drop at (now text))) ≡ length (now text) - at = ap length whole ∙ length-drop at (now text) in omega arith;
+      ends = let n : length (take (length (now text) - at) (drop at (now text))) ≡ length (now text) - at = ap length whole ∙ length-drop at
+          (now text) in omega arith;
     }
   where
     whole : take (length (now text) - at) (drop at (now text)) ≡ drop at (now text)

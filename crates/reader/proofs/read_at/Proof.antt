@@ -67,7 +67,8 @@ module _ {M : Type 1} (𝓤 : URA M) (H : Heap 𝓤) (A : Atoms 𝓤) (mem : Mem
   abbrev Next : Contract 𝓤
   Next = tripleOf 𝓤 H A next.signature (next.spec 𝓤 H A mem run)
 
-module _ {M : Type 1} (𝓤 : URA M) (H : Heap 𝓤) (A : Atoms 𝓤) (W : Given 𝓤 H A) (mem : Memory → SProp 𝓤) (run : Routine → Fun 𝓤) (κ : Lft) (q : Share) (s : RefT (List ℕ)) (n : ℕ) (fits : n < 2 ^ 64) where
+module _ {M : Type 1} (𝓤 : URA M) (H : Heap 𝓤) (A : Atoms 𝓤) (W : Given 𝓤 H A) (mem : Memory → SProp 𝓤) (run : Routine → Fun 𝓤) (κ : Lft) (q : Share)
+    (s : RefT (List ℕ)) (n : ℕ) (fits : n < 2 ^ 64) where
   -- the reader made, and its machine value
   abbrev d : Reader
   d = record { text = s; offset = n }
@@ -96,10 +97,12 @@ module _ {M : Type 1} (𝓤 : URA M) (H : Heap 𝓤) (A : Atoms 𝓤) (W : Given
   asked = qed W ((‵ (flft κ q) ⊛ ‵ ftrue) ∷ ‵ (owns (B (κ, tt) ∷ []) (d, tt) (mach ∷ [], tt)) ∷ []) ∵ join ! $ frame ! $ done !
 
   -- what the parameters own is what the reader owns. It is had twice: once for `next`, and once for the exit
-  goes-next : ent 𝓤 (onEntry 𝓤 H A read-at.signature (κ, tt) (q, tt) (s, (n, tt)) (passed d)) (sep 𝓤 (Next 𝓤 H A mem run .pre to) (sem 𝓤 H A (Own κ d)))
+  goes-next : ent 𝓤 (onEntry 𝓤 H A read-at.signature (κ, tt) (q, tt) (s, (n, tt)) (passed d))
+      (sep 𝓤 (Next 𝓤 H A mem run .pre to) (sem 𝓤 H A (Own κ d)))
   goes-next =
       qed W ((‵ (flft κ q) ⊛ ‵ ftrue) ∷ ‵ (owns (ShrSlice (named 0) κ u8 ∷ usize ∷ []) (s, (n, tt)) (passed d)) ∷ []) ∵
-      move ! (1 ∷ []) $ use1 W (‵ (Own κ d)) (own-shut 𝓤 H A W (D κ) (L κ) (s, (n, tt))) $ use1 W (‵ (Own κ d) ⊛ ‵ (Own κ d)) (LL.copy (D κ) (T′.the-copy α) 𝓤 H A W .twice d (mach ∷ [])) $ split ! $
+      move ! (1 ∷ []) $ use1 W (‵ (Own κ d)) (own-shut 𝓤 H A W (D κ) (L κ) (s, (n, tt))) $
+      use1 W (‵ (Own κ d) ⊛ ‵ (Own κ d)) (LL.copy (D κ) (T′.the-copy α) 𝓤 H A W .twice d (mach ∷ [])) $ split ! $
       nothing ! $ move ! (1 ∷ 0 ∷ []) $ fjoin ! $ move ! (2 ∷ 0 ∷ []) $ use2 W (raw (Next 𝓤 H A mem run .pre to)) asked $ frame ! $ done !
 
   said : (r : Read) → ent 𝓤 (ensured 𝓤 H A next.ended (next.clauses 𝓤 H A mem run) (κ, tt) (d, tt) tt r) (fact 𝓤 (ReadsOn d r))
@@ -121,41 +124,57 @@ module _ {M : Type 1} (𝓤 : URA M) (H : Heap 𝓤) (A : Atoms 𝓤) (W : Given
   exits : (r : Read) → ReadsOn d r → ent 𝓤 (⋆ 𝓤 H A (‵ (parts r) ∷ (‵ (flft κ q) ⊛ ‵ ftrue) ∷ ‵ (Own κ d) ∷ [])) (Post (answer r))
   exits r e =
       qed W (‵ (parts r) ∷ (‵ (flft κ q) ⊛ ‵ ftrue) ∷ ‵ (Own κ d) ∷ []) ∵
-      suffices ! _ (ends-at 𝓤 H A read-at.ended stayed (read-at.clauses 𝓤 H A mem run) W (((κ, tt), (q, tt), tt, (s, (n, tt)), passed d), tt) (answer r) (r .lexed) (tt, (tt, tt)) (tt, (tt, tt))) $ says ! (e .answers) $
-      move ! (1 ∷ []) $ frame ! $ move ! (1 ∷ []) $ use1 W (given (mach ∷ [] ≡ mach ∷ []) (‵ (all-own (D κ .parts) (L κ) (s, (n, tt))))) (own-open 𝓤 H A W (D κ) (L κ) (s, (n, tt)) mach) $ learn ! (λ _. frame ! $
+      suffices ! _ (ends-at 𝓤 H A read-at.ended stayed (read-at.clauses 𝓤 H A mem run) W (((κ, tt), (q, tt), tt, (s, (n, tt)), passed d), tt)
+      (answer r) (r .lexed) (tt, (tt, tt)) (tt, (tt, tt))) $ says ! (e .answers) $
+      move ! (1 ∷ []) $ frame ! $ move ! (1 ∷ []) $
+      use1 W (given (mach ∷ [] ≡ mach ∷ []) (‵ (all-own (D κ .parts) (L κ) (s, (n, tt))))) (own-open 𝓤 H A W (D κ) (L κ) (s, (n, tt)) mach) $
+      learn ! (λ _. frame ! $
       -- [what the result of `next` owns]: the answer's part is taken
       fsplit ! $ move ! (1 ∷ []) $ drop ! $ done !)
 
   module _ (C : Calls 𝓤 H) (Λ : Loops 𝓤 H) (fm : FmC 𝓤 H (W .laws) C) (known : Triple 𝓤 (C #reader·next) (Next 𝓤 H A mem run)) where
-    walk : Is (ShrSlice (named 0) κ u8) s (v ∷ []) → ent 𝓤 (onEntry 𝓤 H A read-at.signature (κ, tt) (q, tt) (s, (n, tt)) (passed d)) (WpFn 𝓤 H C Λ code.function (v ∷ vint w64 n ∷ []) Post)
+    walk : Is (ShrSlice (named 0) κ u8) s (v ∷ []) → ent 𝓤 (onEntry 𝓤 H A read-at.signature (κ, tt) (q, tt) (s, (n, tt)) (passed d))
+        (WpFn 𝓤 H C Λ code.function (v ∷ vint w64 n ∷ []) Post)
     walk p =
-        qed W (raw (onEntry 𝓤 H A read-at.signature (κ, tt) (q, tt) (s, (n, tt)) (passed d)) ∷ []) ∵ enter ! C Λ code.function (v ∷ vint w64 n ∷ []) _ $
+        qed W (raw (onEntry 𝓤 H A read-at.signature (κ, tt) (q, tt) (s, (n, tt)) (passed d)) ∷ []) ∵ enter ! C Λ code.function
+        (v ∷ vint w64 n ∷ []) _ $
         alloc1 ! (λ l₀. alloc1 ! (λ l₁. alloc1 ! (λ l₂. alloc1 ! (λ l₃. alloc1 ! (λ l₄. alloc0 ! $ params1 ! $
-        pass1 ! (init ! 6 refl (shr-slice-lawful 𝓤 H A W (named 0) κ u8 .typed s _ p .0)) $ pass1 ! (init ! 4 refl (tt, record { fits = fits })) $ pass0 ! $
-        assigns ! (agg ! (and-then ! (load ! (from ! (stop !)) (look ! 6 refl)) (and-then ! (load ! (from ! (stop !)) (look ! 4 refl)) (no-more !)))) (from ! (stop !)) (init ! 0 refl (tt, (shr-slice-lawful 𝓤 H A W (named 0) κ u8 .typed s _ p .0 .1, (record { fits = fits }, tt)))) $
+        pass1 ! (init ! 6 refl (shr-slice-lawful 𝓤 H A W (named 0) κ u8 .typed s _ p .0)) $ pass1 ! (init ! 4 refl (tt, record { fits = fits })) $
+        pass0 ! $
+        assigns ! (agg ! (and-then ! (load ! (from ! (stop !)) (look ! 6 refl)) (and-then ! (load ! (from ! (stop !)) (look ! 4 refl)) (no-more !))))
+        (from ! (stop !)) (init ! 0 refl (tt, (shr-slice-lawful 𝓤 H A W (named 0) κ u8 .typed s _ p .0 .1, (record { fits = fits }, tt)))) $
         move ! (10 ∷ []) $ use1 W (raw (Next 𝓤 H A mem run .pre to) ⊛ ‵ (Own κ d)) goes-next $ split ! $
         calls-at ! fm (Next 𝓤 H A mem run) known to (and-then ! (load ! (from ! (stop !)) (look ! 2 refl)) (no-more !)) (λ u.
-        use1 W (later (some (λ (r : Read). ((‵ (flft κ q) ⊛ ‵ ftrue) ⊛ ‵ (ReadT .own r (u ∷ []))) ⊛ raw (ensured 𝓤 H A next.ended (next.clauses 𝓤 H A mem run) (κ, tt) (d, tt) tt r)))) (id⊢ 𝓤 _) $ await ! tt $ pick ! (λ r.
+        use1 W (later (some (λ (r : Read). ((‵ (flft κ q) ⊛ ‵ ftrue) ⊛ ‵ (ReadT .own r (u ∷ []))) ⊛ raw
+        (ensured 𝓤 H A next.ended (next.clauses 𝓤 H A mem run) (κ, tt) (d, tt) tt r)))) (id⊢ 𝓤 _) $ await ! tt $ pick ! (λ r.
         split ! $ move ! (1 ∷ []) $ use1 W (raw (fact 𝓤 (ReadsOn d r))) (said r) $ heard ! (ReadsOn d r) (λ e. split ! $ move ! (1 ∷ []) $
         -- [what the result of `next` owns; the token; what the reader owns; _4; …; room for _3; …; _2; …; _1; …; room for _0; …]
         peeks ! ReadT (Is ReadT) (shows 𝓤 H A ReadT) r (u ∷ []) (λ is.
         land ! (from ! (stop !)) (init ! 5 refl (LL.lawful (R.the-type αᵉ) (R′.the-laws αᵉ) 𝓤 H A W .typed r _ is .0)) $
-        use1 W (given (u ∷ [] ≡ low r ∷ []) (‵ (parts r))) (own-open 𝓤 H A W (R.the-type α) (R′.the-laws α) (r .lexed, (r .reader, tt)) u) $ learn ! (λ spelled.
+        use1 W (given (u ∷ [] ≡ low r ∷ []) (‵ (parts r))) (own-open 𝓤 H A W (R.the-type α) (R′.the-laws α) (r .lexed, (r .reader, tt)) u) $
+        learn ! (λ spelled.
         rewrite ! 5 (λ (us : List Val). ‵ (fat fullShare (R′.mir erased) l₃ 0 (only us))) spelled refl $
-        assigns ! (of-opd ! (load ! (from ! (fld ! refl (stop !))) (look-in ! 5 (sub ! 0 refl (whole !))))) (from ! (stop !)) (init ! 11 refl (EL.lawful S.the-type S′.the-laws 𝓤 H A W tt .typed (r .lexed) _ (LL.owed (R.the-type α) (R′.the-laws α) r _ is .0) .0)) $
+        assigns ! (of-opd ! (load ! (from ! (fld ! refl (stop !))) (look-in ! 5 (sub ! 0 refl (whole !))))) (from ! (stop !))
+        (init ! 11 refl (EL.lawful S.the-type S′.the-laws 𝓤 H A W tt .typed (r .lexed) _ (LL.owed (R.the-type α) (R′.the-laws α) r _ is .0) .0)) $
         returns ! (look ! 11 refl) $ forget ! 3 refl $ forget ! 5 refl $ forget ! 7 refl $ forget ! 9 refl $ forget ! 11 refl $
-        move ! (11 ∷ 12 ∷ []) $ free1 ! $ move ! (9 ∷ 10 ∷ []) $ free1 ! $ move ! (7 ∷ 8 ∷ []) $ free1 ! $ move ! (5 ∷ 6 ∷ []) $ free1 ! $ move ! (3 ∷ 4 ∷ []) $ free1 ! $ free0 ! $ by ! (exits r e)))))))))))
+        move ! (11 ∷ 12 ∷ []) $ free1 ! $ move ! (9 ∷ 10 ∷ []) $ free1 ! $ move ! (7 ∷ 8 ∷ []) $ free1 ! $ move ! (5 ∷ 6 ∷ []) $ free1 ! $
+        move ! (3 ∷ 4 ∷ []) $ free1 ! $ free0 ! $ by ! (exits r e)))))))))))
 
 module _ {M : Type 1} (𝓤 : URA M) (H : Heap 𝓤) (A : Atoms 𝓤) (W : Given 𝓤 H A) (mem : Memory → SProp 𝓤) (run : Routine → Fun 𝓤) where
   read-at-walks : (C : Calls 𝓤 H) (Λ : Loops 𝓤 H) → FmC 𝓤 H (W .laws) C → Triple 𝓤 (C #reader·next) (Next 𝓤 H A mem run)
       → Walks 𝓤 H A read-at.ended stayed (WpFn 𝓤 H C Λ code.function) (read-at.clauses 𝓤 H A mem run)
-  read-at-walks C Λ fm known = walked 𝓤 H A read-at.ended stayed (read-at.clauses 𝓤 H A mem run) (WpFn 𝓤 H C Λ code.function) (λ κs. (slice-vals, (uint-vals w64, tt))) (λ κs. (shr-slice-tells (named 0) (κs .0) u8, (uint-tells w64, tt)))
-      (λ κs qs bounds a g are. via 𝓤 _ (fst∗ 𝓤 _ (emp 𝓤)) (walk 𝓤 H A W mem run (κs .0) (qs .0) (a .0) (a .1 .0) (are .1 .0 .1) C Λ fm known (are .0)))
+  read-at-walks C Λ fm known = walked 𝓤 H A read-at.ended stayed (read-at.clauses 𝓤 H A mem run) (WpFn 𝓤 H C Λ code.function)
+      (λ κs. (slice-vals, (uint-vals w64, tt))) (λ κs. (shr-slice-tells (named 0) (κs .0) u8, (uint-tells w64, tt)))
+      (λ κs qs bounds a g are. via 𝓤 _ (fst∗ 𝓤 _ (emp 𝓤))
+      (walk 𝓤 H A W mem run (κs .0) (qs .0) (a .0) (a .1 .0) (are .1 .0 .1) C Λ fm known (are .0)))
 
-read-at-meets : {M : Type 1} (𝓤 : URA M) (H : Heap 𝓤) (A : Atoms 𝓤) (W : Given 𝓤 H A) (mem : Memory → SProp 𝓤) (run : Routine → Fun 𝓤) (𝓣 : Tables 𝓤 H)
+read-at-meets : {M : Type 1} (𝓤 : URA M) (H : Heap 𝓤) (A : Atoms 𝓤) (W : Given 𝓤 H A) (mem : Memory → SProp 𝓤) (run : Routine → Fun 𝓤)
+    (𝓣 : Tables 𝓤 H)
     → Triple 𝓤 (𝓣 .C #reader·next) (Next 𝓤 H A mem run)
     → Meets 𝓤 H A read-at.signature (WpFn 𝓤 H (𝓣 .C) (𝓣 .Λ) code.function) (read-at.spec 𝓤 H A mem run)
-read-at-meets 𝓤 H A W mem run 𝓣 known = walk-meets 𝓤 H A read-at.ended stayed W (goes-none-slice 𝓤 H A W 1 (0 ∷ []) tt (plain (λ _. u8)) yes, (goes-none 𝓤 H A W 1 (λ _. usize) yes (λ κs x f. refl), tt)) (read-at.clauses 𝓤 H A mem run) (WpFn 𝓤 H (𝓣 .C) (𝓣 .Λ) code.function) (WpFn-mono 𝓤 H (W .laws) 𝓣 code.function)
+read-at-meets 𝓤 H A W mem run 𝓣 known = walk-meets 𝓤 H A read-at.ended stayed W
+    (goes-none-slice 𝓤 H A W 1 (0 ∷ []) tt (plain (λ _. u8)) yes, (goes-none 𝓤 H A W 1 (λ _. usize) yes (λ κs x f. refl), tt))
+    (read-at.clauses 𝓤 H A mem run) (WpFn 𝓤 H (𝓣 .C) (𝓣 .Λ) code.function) (WpFn-mono 𝓤 H (W .laws) 𝓣 code.function)
     (read-at-walks 𝓤 H A W mem run (𝓣 .C) (𝓣 .Λ) (fmOf 𝓤 H (W .laws) 𝓣) known)
 
 pub read-at-spec : {M : Type 1} → stated.statement M

@@ -31,4 +31,5 @@ returns-2 : tie.Need-returns-2
 returns-2 c = part-remains _ _ _ _ (omega arith) (past-same _ _ (c .before .if1 .left))
 
 pub remaining-at-spec : {M : Type 1} → statement M
-remaining-at-spec = tie.close (tie.spec sub-result part-result-start part-result-end returns sub-result-2 part-result-start-2 part-result-end-2 returns-2)
+remaining-at-spec = tie.close
+    (tie.spec sub-result part-result-start part-result-end returns sub-result-2 part-result-start-2 part-result-end-2 returns-2)

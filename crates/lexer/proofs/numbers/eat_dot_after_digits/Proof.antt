@@ -40,7 +40,8 @@ returns-2 : tie.Need-returns-2
 returns-2 c = c .eat-expo .ensures
 
 -- the lexeme ends there: so the span is in order, and it is what the text gives
-plain : (c : tie.Else2) → Ends (c .before .before .before .before .before .before .args .text .now) (c .before .before .before .before .before .before .args .start .at) (c .before .before .before .before .eat .result .at) floatRule
+plain : (c : tie.Else2) → Ends (c .before .before .before .before .before .before .args .text .now)
+    (c .before .before .before .before .before .before .args .start .at) (c .before .before .before .before .eat .result .at) floatRule
 plain c =
     let if2 = c .if2 in
     let sees-either = c .before .sees-either in

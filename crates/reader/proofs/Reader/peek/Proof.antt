@@ -27,4 +27,6 @@ peek-spec 𝓤 H 𝓜 𝓖 𝓡 =
     (pass-meets 𝓤 H (𝓖 .A) (givenOf 𝓤 H 𝓜 𝓖) (peek.signature .result) (λ κs text offset r. r ≡ head (drop offset (now text))) S′.mir #reader·peek-at
     (λ κs r u is. EL.lawful S.the-type S′.the-laws 𝓤 H (𝓖 .A) (givenOf 𝓤 H 𝓜 𝓖) tt .typed r _ is .0)
     (λ κs a r e. peek.clauses 𝓤 H (𝓖 .A) (𝓜 .mem) (𝓡 .run) κs a .ensures tt r e) (λ κs a r e. refl) (tablesOf 𝓤 H 𝓜 (tables 𝓤 H 𝓜 𝓡 code.env))
-    (cited 𝓤 H (tripleOf 𝓤 H (𝓖 .A) peek-at.signature (peek-at.spec 𝓤 H (𝓖 .A) (𝓜 .mem) (𝓡 .run))) 𝓜 𝓡 code.env #reader·peek-at peek-at-def.routine code.calls-reader·peek-at (peek-at-thm.met 𝓤 H 𝓜 𝓖 𝓡)))
+    (cited 𝓤 H (tripleOf 𝓤 H (𝓖 .A) peek-at.signature
+    (peek-at.spec 𝓤 H (𝓖 .A) (𝓜 .mem) (𝓡 .run))) 𝓜 𝓡 code.env #reader·peek-at peek-at-def.routine code.calls-reader·peek-at
+    (peek-at-thm.met 𝓤 H 𝓜 𝓖 𝓡)))

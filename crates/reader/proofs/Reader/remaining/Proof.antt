@@ -23,7 +23,10 @@ unfolding code.routine tablesOf
 remaining-spec 𝓤 H 𝓜 𝓖 𝓡 =
     entered 𝓤 H (tripleOf 𝓤 H (𝓖 .A) remaining.signature (remaining.spec 𝓤 H (𝓖 .A) (𝓜 .mem) (𝓡 .run)))
     (tables 𝓤 H 𝓜 𝓡 code.env .C) (tables 𝓤 H 𝓜 𝓡 code.env .Λ) #reader·remaining code.function (code.unfolded 𝓤 H 𝓜 𝓡)
-    (pass-meets 𝓤 H (𝓖 .A) (givenOf 𝓤 H 𝓜 𝓖) (remaining.signature .result) (λ κs. Remains) (sliceTy (tyRef (named 0) imm (tyInt w8))) #reader·remaining-at
+    (pass-meets 𝓤 H (𝓖 .A) (givenOf 𝓤 H 𝓜 𝓖) (remaining.signature .result) (λ κs. Remains)
+    (sliceTy (tyRef (named 0) imm (tyInt w8))) #reader·remaining-at
     (λ κs r u is. shr-slice-lawful 𝓤 H (𝓖 .A) (givenOf 𝓤 H 𝓜 𝓖) (named 0) (κs .0) u8 .typed r (u ∷ []) is .0)
     (λ κs a r e. remaining.clauses 𝓤 H (𝓖 .A) (𝓜 .mem) (𝓡 .run) κs a .ensures tt r e) (λ κs a r e. refl) (tablesOf 𝓤 H 𝓜 (tables 𝓤 H 𝓜 𝓡 code.env))
-    (cited 𝓤 H (tripleOf 𝓤 H (𝓖 .A) remaining-at.signature (remaining-at.spec 𝓤 H (𝓖 .A) (𝓜 .mem) (𝓡 .run))) 𝓜 𝓡 code.env #reader·remaining-at remaining-at-def.routine code.calls-reader·remaining-at (remaining-at-thm.met 𝓤 H 𝓜 𝓖 𝓡)))
+    (cited 𝓤 H (tripleOf 𝓤 H (𝓖 .A) remaining-at.signature
+    (remaining-at.spec 𝓤 H (𝓖 .A) (𝓜 .mem) (𝓡 .run))) 𝓜 𝓡 code.env #reader·remaining-at remaining-at-def.routine code.calls-reader·remaining-at
+    (remaining-at-thm.met 𝓤 H 𝓜 𝓖 𝓡)))
