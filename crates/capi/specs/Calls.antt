@@ -15,23 +15,25 @@ use Rattle.capi.specs.Numbers.{ofNext, ofList, ofCut, written}
 abbrev pub Gave : Numbers → ℕ → List ℕ → Type 0
 Gave r status four = (status ≡ r .status) × (four ≡ written r)
 
+-- Next
 pub record NextNumbers (s : List ℕ) (at status : ℕ) (four : List ℕ) : Type 0 where
   pub answer : Lexed
   pub owed : Lexes s at answer
   pub gave : Gave (ofNext answer) status four
 
--- with the list before and after
+-- List, with the list before and after
 pub record ListNumbers (s : List ℕ) (at : ℕ) (old : List ℕ) (status : ℕ) (four new : List ℕ) : Type 0 where
   pub answer : Listed
   pub owed : Lists s at old answer new
   pub gave : Gave (ofList answer) status four
 
--- the records written from the text's beginning on
+-- List from the text's beginning on: how many records it wrote, and the list
 pub record ListCount (s old : List ℕ) (records : ℕ) (new : List ℕ) : Type 0 where
   pub answer : Listed
   pub owed : Lists s 0 old answer new
   pub gave : records ≡ recordsIn answer
 
+-- the cut
 pub record CutNumbers (s : List ℕ) (at status : ℕ) (four : List ℕ) : Type 0 where
   pub answer : Statement
   pub owed : Cuts s at answer

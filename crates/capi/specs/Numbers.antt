@@ -12,6 +12,7 @@ use Rattle.lists.specs.Cuts.{CutAnswer, cut, opened, ended, refused}
 use Rattle.lists.specs.Cuts as Cuts
 use Rattle.capi.specs.declared.answers.Numbers.{Numbers}
 
+-- the five numbers of an answer
 abbrev pub five : ℕ → ℕ → ℕ → ℕ → ℕ → Numbers
 five status value start n next = record { status = status; value = value; start = start; length = n; next = next }
 

@@ -1,4 +1,4 @@
-// Answers in numbers.
+// Answers in numbers: what `include/sqllex.h` calls a status and an answer.
 use lexer::cursor::Cursor;
 use lexer::lexed::Lexed;
 use lexer::lexed::Refusal;
@@ -6,7 +6,6 @@ use lists::cut::Statement;
 use lists::list::Listed;
 ghost use mathlib.Core.Path.{_≡_};
 ghost use Rattle.lexer.specs.Values.{numberOf};
-ghost use Rattle.lists.specs.Lists.{recordsIn};
 ghost use Rattle.capi.specs.Numbers.{five, ofNext, ofList, ofCut, written};
 
 // The statuses that are no refusal, and the refusals that List adds.
@@ -24,7 +23,7 @@ pub(crate) const OPEN: u32 = 102;
 
 pub(crate) struct Numbers {
     status: u32,
-    value: usize,
+    pub(crate) value: usize,
     start: usize,
     length: usize,
     next: usize,
@@ -124,22 +123,5 @@ pub(crate) fn of_cut(answer: Statement) -> Numbers
             length,
             next,
         } => five(number_of(why), 0, start, length, next),
-    }
-}
-
-pub(crate) fn records_in(answer: Listed) -> usize
-    ensures { λ r. ⌜ r ≡ recordsIn answer ⌝ }
-{
-    match answer {
-        Listed::End { records, next: _ } => records,
-        Listed::Refused {
-            why: _,
-            start: _,
-            length: _,
-            records,
-            next: _,
-        } => records,
-        Listed::TooLong { next: _ } => 0,
-        Listed::ListFull { records, next: _ } => records,
     }
 }

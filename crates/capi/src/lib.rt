@@ -5,7 +5,6 @@ use crate::answers::give;
 use crate::answers::of_cut;
 use crate::answers::of_list;
 use crate::answers::of_next;
-use crate::answers::records_in;
 use lexer::cursor::Cursor;
 use lexer::next::next;
 use lists::cut::cut;
@@ -42,7 +41,8 @@ pub extern "C" fn sqllex_list_from(
 pub extern "C" fn sqllex_list(text: &[u8], list: &mut [u32]) -> u64
     ensures { λ r. ⌜ ListCount (now (text .entry)) (now (list .entry)) r (now (list .exit)) ⌝ }
 {
-    records_in(lists::list::list(text, Cursor { at: 0 }, list)) as u64
+    let answer = of_list(lists::list::list(text, Cursor { at: 0 }, list));
+    answer.value as u64
 }
 
 #[no_mangle]

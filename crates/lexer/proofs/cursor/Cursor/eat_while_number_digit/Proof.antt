@@ -1,12 +1,14 @@
 -- `lexer::cursor::Cursor::eat_while_number_digit` meets its contract. The loop's invariant: from this group the run ends as it ends from
 -- the first. Assumes nothing.
-use Prim.Native.Nat.{_-_}
+use Prim.Native.Nat.{_+_, _-_}
 use native.Mathlib.Omega.{arith}
 use mathlib.Core.Path.{_∙_, _≡_, refl, sym}
+use mathlib.Core.Bool.{true}
 use lib.ListN.{drop, length}
 use borrow.Author.Needs.{needs}
 use borrow.Author.Tests.{not-false, not-true}
-use Rattle.grammar.specs.Form.{D}
+use Rattle.grammar.specs.Form.{D, byte}
+use Rattle.grammar.specs.Runs.{sees}
 use Rattle.grammar.proofs.Seen.{moved-one, over-on, seen-in}
 use Rattle.lexer.specs.Eaten.{groups}
 use Rattle.lexer.proofs.GroupLaws.{group-bad, group-more, group-read}
@@ -39,58 +41,45 @@ returns c =
 eat-requires : tie.Need-eat-requires Inv-loop μ-loop
 eat-requires c κs = search needs
 
+-- behind a `_`: the digits' end, that the `_` was seen there, and that this place is one on
+abbrev run : tie.After-eat Inv-loop μ-loop → tie.After-eat-while-digit Inv-loop μ-loop
+run c = c .before .before .before
+
+seen : (c : tie.After-eat Inv-loop μ-loop) → sees (byte 95) (drop (run c .eat-while-digit .result .at) (run c .before .before .before .args .text .now)) ≡ true
+seen c = sym (c .before .before .sees .ensures) ∙ not-false _ (c .before .if1 .left)
+
+one-on : (c : tie.After-eat Inv-loop μ-loop) → c .eat .result .at ≡ run c .eat-while-digit .result .at + 1
+one-on c = c .eat .ensures ∙ moved-one _ _ _ (seen c)
+
 returns-2 : tie.Need-returns-2 Inv-loop μ-loop
 returns-2 c =
-    let if2 = c .if2 in
-    let eat = c .before .before .before .eat in
-    let if1 = c .before .before .before .before .if1 in
-    let sees = c .before .before .before .before .before .sees in
-    let eat-while-digit = c .before .before .before .before .before .before .eat-while-digit in
-    let seen = sym (sees .ensures) ∙ not-false _ (if1 .left) in
-    let next = eat .ensures ∙ moved-one _ _ _ seen in
-    absurd (omega (arith, if2 .taken, next, eat-while-digit .ensures, over-on _ _ _ _ (eat-while-digit .ensures)))
+    let at = c .before .before .before in
+    let end = run at .eat-while-digit .ensures in
+    absurd (omega (arith, c .if2 .taken, one-on at, end, over-on _ _ _ _ end))
 
 sees-digit-requires : tie.Need-sees-digit-requires Inv-loop μ-loop
 sees-digit-requires c κs = search needs
 
 returns-3 : tie.Need-returns-3 Inv-loop μ-loop
 returns-3 c =
-    let if3 = c .if3 in
-    let sees-digit = c .before .sees-digit in
-    let eat = c .before .before .before .before .before .eat in
-    let if1 = c .before .before .before .before .before .before .if1 in
-    let sees = c .before .before .before .before .before .before .before .sees in
-    let eat-while-digit = c .before .before .before .before .before .before .before .before .eat-while-digit in
-    let loop = c .before .before .before .before .before .before .before .before .before .loop in
-    let seen = sym (sees .ensures) ∙ not-false _ (if1 .left) in
-    let next = eat .ensures ∙ moved-one _ _ _ seen in
-    let missed = sym (sees-digit .ensures) ∙ not-true _ (if3 .taken) in
-    sym (loop .inv ∙ group-bad D _ (loop .start .at) _ (eat-while-digit .ensures) seen _ next missed)
+    let at = c .before .before .before .before .before in
+    let loop = run at .before .loop in
+    let missed = sym (c .before .sees-digit .ensures) ∙ not-true _ (c .if3 .taken) in
+    sym (loop .inv ∙ group-bad D _ (loop .start .at) _ (run at .eat-while-digit .ensures) (seen at) _ (one-on at) missed)
 
 loop-less : tie.Need-loop-less Inv-loop μ-loop
 loop-less c =
-    let eat = c .before .before .before .before .before .eat in
-    let if1 = c .before .before .before .before .before .before .if1 in
-    let sees = c .before .before .before .before .before .before .before .sees in
-    let eat-while-digit = c .before .before .before .before .before .before .before .before .eat-while-digit in
-    let args = c .before .before .before .before .before .before .before .before .before .before .before .args in
-    let seen = sym (sees .ensures) ∙ not-false _ (if1 .left) in
-    let next = eat .ensures ∙ moved-one _ _ _ seen in
-    omega (arith, next, eat-while-digit .ensures, over-on _ _ _ _ (eat-while-digit .ensures), seen-in _ (args .text .now) (eat-while-digit .result .at) seen)
+    let at = c .before .before .before .before .before in
+    let end = run at .eat-while-digit .ensures in
+    let text = run at .before .before .before .args .text .now in
+    omega (arith, one-on at, end, over-on _ _ _ _ end, seen-in _ text (run at .eat-while-digit .result .at) (seen at))
 
 loop-again : tie.Need-loop-again Inv-loop μ-loop
 loop-again c =
-    let if3 = c .if3 in
-    let sees-digit = c .before .sees-digit in
-    let eat = c .before .before .before .before .before .eat in
-    let if1 = c .before .before .before .before .before .before .if1 in
-    let sees = c .before .before .before .before .before .before .before .sees in
-    let eat-while-digit = c .before .before .before .before .before .before .before .before .eat-while-digit in
-    let loop = c .before .before .before .before .before .before .before .before .before .loop in
-    let seen = sym (sees .ensures) ∙ not-false _ (if1 .left) in
-    let next = eat .ensures ∙ moved-one _ _ _ seen in
-    let more = sym (sees-digit .ensures) ∙ not-false _ (if3 .left) in
-    loop .inv ∙ group-more D _ (loop .start .at) _ (eat-while-digit .ensures) seen _ next more
+    let at = c .before .before .before .before .before in
+    let loop = run at .before .loop in
+    let more = sym (c .before .sees-digit .ensures) ∙ not-false _ (c .if3 .left) in
+    loop .inv ∙ group-more D _ (loop .start .at) _ (run at .eat-while-digit .ensures) (seen at) _ (one-on at) more
 
 pub eat-while-number-digit-spec : {M : Type 1} → statement M
 eat-while-number-digit-spec =
