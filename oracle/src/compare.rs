@@ -9,6 +9,7 @@ mod lexemes;
 mod lists;
 mod makers;
 mod random;
+mod shares;
 mod statements;
 mod walks;
 mod words;
@@ -36,7 +37,7 @@ pub fn compare(out: &mut impl Write, args: &[String]) -> io::Result<bool> {
     let (count, seed) = (number(count)?, number(seed)?);
     let corpus = if folder == "-" { Corpus::default() } else { Corpus::read(Path::new(folder))? };
     let mut texts = 0;
-    for (place, family) in families::all(Plan { count, seed, corpus: &corpus }).iter().enumerate() {
+    for (place, family) in shares::all(Plan { count, seed, corpus: &corpus }).iter().enumerate() {
         let asked = Asked { family, place: place as u64, seed, program };
         if let Some((index, told)) = asked.all()? {
             writeln!(out, "a difference: text {index} of '{}', seed {seed}\n{told}", family.name)?;
