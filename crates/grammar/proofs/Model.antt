@@ -8,7 +8,7 @@ use mathlib.Core.Logic.{inl}
 use lib.Dec.{eqb, ltb}
 use lib.ListN.{length, take, drop}
 use Rattle.grammar.specs.Classes.{Rule}
-use Rattle.grammar.specs.Answers.{Answer, end, refusal, refusalNumber, answer}
+use Rattle.grammar.specs.Answers.{Answer, end, pastEnd, answer}
 use Rattle.grammar.proofs.States.{State, ruleAt, start, step, after, met, Met}
 
 pub data Found : Type 0 where
@@ -35,9 +35,8 @@ given rs s at (found n k) = answer (ruleAt rs k .class) at (take n s)
 -- what Next gives
 abbrev pub next : List Rule → List ℕ → ℕ → Answer
 next rs s at =
-    let past = refusal (refusalNumber "OffsetPastEnd") 0 0 at in
     let lexeme = given rs (drop at s) at (scan (start rs) (drop at s)) in
-    cond (ltb (length s) at) past (cond (eqb at (length s)) (end at) lexeme)
+    cond (ltb (length s) at) (pastEnd at) (cond (eqb at (length s)) (end at) lexeme)
 
 -- no rule is met behind m bytes
 abbrev pub Unmet : State → List ℕ → ℕ → Type 0

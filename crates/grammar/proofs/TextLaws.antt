@@ -13,7 +13,8 @@ use Rattle.words.specs.Bytes.{isDigit, isHexdigit, isIdentifierStart, isIdentif
 use Rattle.words.specs.Word.{upper, kindOf}
 use Rattle.grammar.specs.Form.{Set, holds, Has}
 use Rattle.grammar.specs.Classes.{Class, Rule, operators, rules}
-use Rattle.grammar.specs.Answers.{Answer, token, end, refusal, refusalNumber, answer}
+use Rattle.grammar.specs.Refusals.{refusals}
+use Rattle.grammar.specs.Answers.{Answer, token, end, refusal, answer}
 use Rattle.grammar.specs.Longest.{Every, Follows, Stands, Gives}
 use Rattle.grammar.specs.Texts
 use Rattle.grammar.specs.Texts.{Row, Walks, table, Unfit, unfits}
@@ -53,11 +54,15 @@ texts = every-row table computed
     every-row [] e = tt
     every-row (r ∷ l) e = (walk-walks (r .text) (r .answers) (r .from) (head-eq-of-cons-eq e), every-row l (tail-eq-of-cons-eq e))
 
--- A misspelt kind would have a number out of range: none of the table has.
+abbrev isIn : ℕ → List ℕ → Bool
+isIn c [] = false
+isIn c (x ∷ l) = eqb x c || isIn c l
+
+-- A misspelt kind would have a number out of range: none of the table has. Its refusals are Next's.
 abbrev known : Answer → Bool
 known (token k start n next) = ltb k (length kindNames)
 known (end at) = true
-known (refusal k start n at) = leb k (refusalNumber "OffsetPastEnd")
+known (refusal k start n at) = isIn k (map (λ r. r .number) refusals)
 
 pub table-known : every (λ r. every known (r .answers)) table ≡ true
 unfolding table
@@ -75,10 +80,6 @@ classes (suc n) s at = classOf (scan (start rules) (drop at s)) ++ classes n s (
 abbrev tableClasses : List Row → List ℕ
 tableClasses [] = []
 tableClasses (r ∷ l) = classes (length (r .answers)) (r .text) (r .from) ++ tableClasses l
-
-abbrev isIn : ℕ → List ℕ → Bool
-isIn c [] = false
-isIn c (x ∷ l) = eqb x c || isIn c l
 
 abbrev hasAll : List ℕ → Bool
 hasAll l = below 27 (λ c. isIn c l)

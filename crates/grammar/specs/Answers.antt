@@ -1,11 +1,11 @@
 -- What each class of document 01 answers, as numbers. Assumes nothing.
 use Prim.Native.Nat.{ℕ, suc, _+_, _-_, max}
 use Prim.Native.String.{String}
-use mathlib.Core.Bool.{cond}
+use mathlib.Core.Bool.{Bool, true, false, cond}
 use mathlib.Core.List.{List, [], _∷_}
 use lib.Dec.{eqb}
 use lib.ListN.{length, take}
-use Rattle.keywords.specs.Kinds.{kind, place}
+use Rattle.keywords.specs.Kinds.{kind}
 use Rattle.keywords.specs.Words.{kindIn}
 use Rattle.words.specs.Word.{kindOf}
 use Rattle.grammar.specs.Form.{Set, D, H, no, oneOf, holds}
@@ -13,6 +13,7 @@ use Rattle.grammar.specs.Classes.{Class, blankRun, lineComment, blockCom
 use Rattle.grammar.specs.Classes.{word, illegal, unrecognized, bang, openQuote, openBlob, oddBlob, badParameter, underscore, wordAfterInteger}
 use Rattle.grammar.specs.Classes.{wordAfterFraction, noExponent, wordAfterExponent, noHexdigit, underscoreAfterX, hexUnderscore, wordAfterHex}
 use Rattle.grammar.specs.Classes.{operators}
+use Rattle.grammar.specs.Refusals.{refusalNumber}
 
 -- a token with its kind, start, length and next offset; End with its offset; or a refusal with its number, span and resulting offset
 pub data Answer : Type 0 where
@@ -20,15 +21,14 @@ pub data Answer : Type 0 where
   end : (offset : ℕ) → Answer
   refusal : (number start length offset : ℕ) → Answer
 
--- document 01's refusals, numbered from 1; Next has those up to OffsetPastEnd, List the last two besides
-abbrev pub refusalNames : List String
-refusalNames =
-    "UnrecognizedToken" ∷ "UnterminatedLiteral" ∷ "BadNumber" ∷ "BadFractionalPart" ∷ "BadExponentPart" ∷
-    "MalformedHexInteger" ∷ "ExpectedEqualsSign" ∷ "OffsetPastEnd" ∷ "TooLong" ∷ "ListFull" ∷
-    []
+abbrev pub isRefusal : Answer → Bool
+isRefusal (token kind start length next) = false
+isRefusal (end offset) = false
+isRefusal (refusal number start length offset) = true
 
-abbrev pub refusalNumber : String → ℕ
-refusalNumber n = suc (place n refusalNames)
+-- past the end of the text
+abbrev pub pastEnd : ℕ → Answer
+pastEnd at = refusal (refusalNumber "OffsetPastEnd") 0 0 at
 
 -- a legal lexeme w at an offset
 abbrev pub legal : ℕ → ℕ → List ℕ → Answer

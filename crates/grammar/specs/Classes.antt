@@ -1,5 +1,6 @@
 -- The classes of document 01, line by line and in its order: which texts stand in each, and what may follow them there.
 -- Assumes nothing.
+use mathlib.Core.Bool.{Bool, true, false}
 use mathlib.Core.List.{List, [], _∷_}
 use Rattle.keywords.specs.Words.{Entry, entry}
 use Rattle.grammar.specs.Form.{Set, none, D, H, S, C, blank, control, byte, no, _or_, any, _except_, oneOf, Form, never, one, _·_, _∣_, _but_}
@@ -12,6 +13,36 @@ pub data Class : Type 0 where
   unrecognized bang openQuote openBlob oddBlob badParameter : Class
   underscore wordAfterInteger wordAfterFraction noExponent wordAfterExponent : Class
   noHexdigit underscoreAfterX hexUnderscore wordAfterHex : Class
+
+-- whether document 01 has it among the malformed lexemes
+unfoldable pub malformed : Class → Bool
+malformed blankRun = false
+malformed lineComment = false
+malformed blockComment = false
+malformed operator = false
+malformed string = false
+malformed quotedName = false
+malformed integer = false
+malformed float = false
+malformed blob = false
+malformed parameter = false
+malformed word = false
+malformed illegal = false
+malformed unrecognized = true
+malformed bang = true
+malformed openQuote = true
+malformed openBlob = true
+malformed oddBlob = true
+malformed badParameter = true
+malformed underscore = true
+malformed wordAfterInteger = true
+malformed wordAfterFraction = true
+malformed noExponent = true
+malformed wordAfterExponent = true
+malformed noHexdigit = true
+malformed underscoreAfterX = true
+malformed hexUnderscore = true
+malformed wordAfterHex = true
 
 -- a form of a class, and the bytes that may follow it there; the end of the text always may
 pub record Rule : Type 0 where

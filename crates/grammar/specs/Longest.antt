@@ -7,7 +7,7 @@ use mathlib.Core.Logic.{_⊎_}
 use lib.ListN.{length, take, drop}
 use Rattle.grammar.specs.Form.{Set, holds, Form, Has}
 use Rattle.grammar.specs.Classes.{Class, Rule, _is_}
-use Rattle.grammar.specs.Answers.{Answer, end, refusal, refusalNumber, answer}
+use Rattle.grammar.specs.Answers.{Answer, end, pastEnd, answer}
 
 -- some entry of the list
 abbrev pub Some : {A : Type 0} → (A → Type 0) → List A → Type 0
@@ -49,6 +49,6 @@ Lexeme rs s at a = (c : Class) × (n : ℕ) × Longest rs s c n × (a ≡ answer
 -- Next: past the end a refusal, at the end End, else what the longest lexeme gives
 abbrev pub Gives : List Rule → List ℕ → ℕ → Answer → Type 0
 Gives rs s at a =
-    ((length s < at) × (a ≡ refusal (refusalNumber "OffsetPastEnd") 0 0 at)) ⊎
+    ((length s < at) × (a ≡ pastEnd at)) ⊎
     ((at ≡ length s) × (a ≡ end at)) ⊎
     ((at < length s) × Lexeme rs (drop at s) at a)

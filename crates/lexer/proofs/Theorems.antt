@@ -1,15 +1,18 @@
 -- For readers. `unique`: two answers of `next` that meet its contract are equal. `table-lexed`: `next` answers what the grammar's table
--- says. `not-one`: no one answer is right everywhere. `moves` (Moves.antt): a token leads on, inside the text. Assumes nothing.
-use Prim.Native.Nat.{ℕ}
-use native.Mathlib.Omega.{arith}
-use mathlib.Core.Path.{_≡_, refl, sym, _∙_, ap}
+-- says. `not-all-refused`, `not-all-of-kind`: whatever meets the contract gives tokens, and not all of one kind. `moves` (Moves.antt): a
+-- token leads on, inside the text. Assumes nothing.
+use Prim.Native.Nat.{ℕ, _<_, zero-le, suc-le-suc}
+use mathlib.Core.Path.{_≡_, refl, sym, _∙_, ap, subst}
+use mathlib.Core.Bool.{true, true≢false}
 use mathlib.Core.List.{List, [], _∷_}
-use mathlib.Core.Logic.{inl, inr}
+use lib.Dec.{T, eqb, eqb-refl}
 use lib.ListN.{length, getD}
+use Rattle.keywords.specs.Kinds.{kind}
+use Rattle.keywords.specs.Text.{bytes}
 use Rattle.grammar.specs.Classes.{rules}
-use Rattle.grammar.specs.Answers.{Answer, token, end, refusal}
-use Rattle.grammar.specs.Longest.{Every}
-use Rattle.grammar.specs.Texts.{Row, offset, Walks, table}
+use Rattle.grammar.specs.Answers.{Answer, token, end, refusal, isRefusal}
+use Rattle.grammar.specs.Longest.{Every, Gives}
+use Rattle.grammar.specs.Texts.{Row, offset, Walks, tk, table}
 use Rattle.grammar.proofs.Unique.{gives-unique}
 use Rattle.grammar.proofs.TextLaws.{texts}
 use Rattle.lexer.specs.declared.lexed.Refusal.{Refusal}
@@ -71,13 +74,33 @@ table-lexed = every-row table texts
     every-row [] e = tt
     every-row (r ∷ l) e = (walks-tell (r .text) (r .answers) (r .from) (e .0), every-row l (e .1))
 
--- No one answer meets the contract everywhere: no fixed token, no fixed refusal.
-pub not-one : (r : Lexed) → ((s : List ℕ) (at : ℕ) → Lexes s at r) → ⊥
-unfolding Lexes
-not-one r g = ends-apart (sym (at-end [] refl) ∙ at-end (97 ∷ []) refl)
-  where
-    at-end : (s : List ℕ) {at : ℕ} → at ≡ length s → valuesOf r ≡ end at
-    at-end s {at} e = gives-unique rules s at (valuesOf r) (end at) (g s at) (inr (inl (e, refl)))
+-- a token is of this kind
+abbrev pub OfKind : ℕ → Answer → Type 0
+OfKind k (token kind start length next) = kind ≡ k
+OfKind k (end at) = Unit {0}
+OfKind k (refusal number start length at) = Unit {0}
 
-    ends-apart : end 0 ≡ end 1 → ⊥
-    ends-apart e = let z : _≡_ {A = ℕ} 0 1 = cc in omega arith
+-- whatever meets the contract everywhere
+module _ (f : List ℕ → ℕ → Lexed) (meets : (s : List ℕ) (at : ℕ) → Lexes s at (f s at)) where
+  answers : (s : List ℕ) (at : ℕ) (a : Answer) → Gives rules s at a → valuesOf (f s at) ≡ a
+  unfolding Lexes
+  answers s at a g = gives-unique rules s at (valuesOf (f s at)) a (meets s at) g
+
+  float-first : valuesOf (f (bytes "1.a") 0) ≡ tk "TK_FLOAT" 0 2
+  unfolding table
+  float-first = answers (bytes "1.a") 0 (tk "TK_FLOAT" 0 2) (texts .1 .0 .0)
+
+  integer-first : valuesOf (f (bytes "1_2") 0) ≡ tk "TK_INTEGER" 0 3
+  unfolding table
+  integer-first = answers (bytes "1_2") 0 (tk "TK_INTEGER" 0 3) (texts .1 .1 .1 .1 .0 .0)
+
+  -- Not every answer below the end is a refusal.
+  pub not-all-refused : ((s : List ℕ) (at : ℕ) → at < length s → isRefusal (valuesOf (f s at)) ≡ true) → ⊥
+  not-all-refused r = true≢false (sym (r (bytes "1_2") 0 (suc-le-suc zero-le)) ∙ ap isRefusal integer-first)
+
+  -- For no kind is every token below the end of it, and so none is every answer's.
+  pub not-all-of-kind : (k : ℕ) → ((s : List ℕ) (at : ℕ) → at < length s → OfKind k (valuesOf (f s at))) → ⊥
+  not-all-of-kind k r =
+      let p = subst (OfKind k) float-first (r (bytes "1.a") 0 (suc-le-suc zero-le)) in
+      let q = subst (OfKind k) integer-first (r (bytes "1_2") 0 (suc-le-suc zero-le)) in
+      subst (λ (j : ℕ). T (eqb (kind "TK_FLOAT") j)) (p ∙ sym q) (eqb-refl (kind "TK_FLOAT"))

@@ -2,7 +2,8 @@
 use Prim.Native.Nat.{ℕ}
 use mathlib.Core.List.{List}
 use Rattle.grammar.specs.Classes.{rules}
-use Rattle.grammar.specs.Answers.{Answer, token, end, refusal, refusalNumber}
+use Rattle.grammar.specs.Refusals.{refusalNumber}
+use Rattle.grammar.specs.Answers.{Answer, token, end, refusal}
 use Rattle.grammar.specs.Longest.{Gives}
 use Rattle.lexer.specs.declared.lexed.Refusal.{Refusal}
 use Rattle.lexer.specs.declared.lexed.Refusal.the-variants.{UnrecognizedToken, UnterminatedLiteral, BadNumber, BadFractionalPart}

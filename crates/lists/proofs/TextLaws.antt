@@ -1,26 +1,31 @@
 -- The tables of texts hold. Assumes nothing.
 use Prim.Native.Nat.{ℕ, zero, suc, _+_}
+use native.Mathlib.Omega.{arith}
 use mathlib.Core.Path.{_≡_, refl, sym, ap, subst}
 use mathlib.Core.Bool.{Bool, true, false, cond, not}
 use mathlib.Core.List.{List, [], _∷_, _++_, map, nil≢cons, head-eq-of-cons-eq, tail-eq-of-cons-eq}
+use mathlib.Core.Logic.{inl, inr}
 use lib.Dec.{T, eqb, leb, eqb→eq, eqb-refl, leb→le, le→leb, T-not, not-T}
 use lib.ListN.{length, drop}
 use Rattle.keywords.specs.Kinds.{kind}
-use Rattle.keywords.proofs.Logic.{split}
+use Rattle.keywords.proofs.Logic.{split, and-left, and-right, every}
 use Rattle.keywords.specs.Words.{wordList}
 use Rattle.words.specs.Bytes.{isDigit, isHexdigit, isIdentifierStart, isIdentifierContinue, isBlank}
 use Rattle.words.specs.Word.{upper, kindOf}
 use Rattle.grammar.specs.Classes.{operators, rules}
-use Rattle.grammar.specs.Answers.{Answer, token, end, refusal, refusalNumber, answer}
+use Rattle.grammar.specs.Answers.{Answer, token, end, refusal, answer}
 use Rattle.grammar.specs.Longest.{Every, Gives}
 use Rattle.grammar.proofs.Model.{next}
 use Rattle.grammar.proofs.Lexemes.{next-gives}
 use Rattle.grammar.proofs.Theorems.{sound}
 use Rattle.lists.specs.Walk.{Legal, Goes, Passes}
-use Rattle.lists.specs.Lists.{recordOf, recordsOf, HasRoom, listAnswer, Listing}
-use Rattle.lists.specs.Cuts.{CutAnswer, NoSemi, someNotNone, cutAnswer, Cutting}
+use Rattle.lists.specs.declared.list.Listed.{Listed}
+use Rattle.lists.specs.declared.cut.Statement.{Statement}
+use Rattle.lists.specs.Lists.{recordOf, recordsOf, HasRoom, listAnswer, Listing, answerOf, recordsIn, longestText, Lists}
+use Rattle.lists.specs.Cuts.{CutAnswer, NoSemi, someNotNone, cutAnswer, Cutting, valuesOf, Cuts}
 use Rattle.lists.specs.Texts.{CutRow, cuts, ListRow, lists}
 use Rattle.lists.proofs.WalkLaws.{legal, legalOf, Stuck, token-passes, end-no-token, refusal-no-token}
+use Rattle.lists.proofs.Theorems.{listing-unique, cutting-unique}
 
 -- a walk as the model computes it, with a test for what it passes: where it stops, or nothing if that takes more steps than these
 data Stop : Type 0 where
@@ -112,10 +117,6 @@ computed-lists : map (λ r. listGiven r (listWalk r)) lists ≡ map (λ r. r ∷
 unfolding lists recordsOf rules operators isDigit isHexdigit isIdentifierStart isIdentifierContinue isBlank answer kindOf upper wordList
 computed-lists = refl
 
--- document 01's numbers of List's own refusals
-pub own-numbers : (refusalNumber "TooLong" ≡ 9) × (refusalNumber "ListFull" ≡ 10)
-own-numbers = (refl, refl)
-
 semi-decides : Decides NoSemi isOther
 semi-decides =
     record {
@@ -135,21 +136,28 @@ cut-row r (stop l to there) (p, g, stuck) e =
       answers = sym (head-eq-of-cons-eq e);
     }
 
--- The cut gives what the table says.
-pub cut-texts : Every (λ r. Cutting (r .text) (r .from) (r .answer)) cuts
+-- a row's answer is that of the definition, and whatever meets the contract of `cut` answers so
+abbrev pub CutSo : CutRow → Type 0
+CutSo r = Cutting (r .text) (r .from) (r .answer) × ((q : Statement) → Cuts (r .text) (r .from) q → valuesOf q ≡ r .answer)
+
+cut-so : (r : CutRow) → Cutting (r .text) (r .from) (r .answer) → CutSo r
+unfolding Cuts
+cut-so r x = (x, λ q y. cutting-unique (r .text) (r .from) (valuesOf q) (r .answer) y x)
+
+-- The rows of the table hold of the cut.
+pub cut-texts : Every CutSo cuts
 cut-texts = every-row cuts computed-cuts
   where
-    every-row : (l : List CutRow) → map (λ r. cutGiven r (cutWalk r)) l ≡ map (λ r. r .answer ∷ []) l
-        → Every (λ r. Cutting (r .text) (r .from) (r .answer)) l
+    every-row : (l : List CutRow) → map (λ r. cutGiven r (cutWalk r)) l ≡ map (λ r. r .answer ∷ []) l → Every CutSo l
     every-row [] e = tt
     every-row (r ∷ l) e =
         let right = from-here NoSemi isOther semi-decides (r .text) (r .from) 20 in
-        (cut-row r (cutWalk r) right (head-eq-of-cons-eq e), every-row l (tail-eq-of-cons-eq e))
+        (cut-so r (cut-row r (cutWalk r) right (head-eq-of-cons-eq e)), every-row l (tail-eq-of-cons-eq e))
 
-abbrev Listed : ListRow → Type 0
-Listed r = Listing (r .text) (r .from) (r .lent) (r .answer) (r .records) (r .left)
+abbrev Gives-row : ListRow → Type 0
+Gives-row r = Listing (r .text) (r .from) (r .lent) (r .answer) (r .records) (r .left)
 
-list-row : (r : ListRow) (w : Stop) → Right (HasRoom (length (r .lent))) (r .text) (r .from) w → listGiven r w ≡ r ∷ [] → Listed r
+list-row : (r : ListRow) (w : Stop) → Right (HasRoom (length (r .lent))) (r .text) (r .from) w → listGiven r w ≡ r ∷ [] → Gives-row r
 list-row r nowhere x e = absurd (nil≢cons e)
 list-row r (stop l to there) (p, g, stuck) e =
     let same = sym (head-eq-of-cons-eq e) in
@@ -160,13 +168,40 @@ list-row r (stop l to there) (p, g, stuck) e =
       written = ap (λ (q : ListRow). q .left) same;
     }
 
--- List gives what the table says.
-pub list-texts : Every (λ r. Listing (r .text) (r .from) (r .lent) (r .answer) (r .records) (r .left)) lists
-list-texts = every-row lists computed-lists
+-- a row's answer, number of records and list are those of the definition, and whatever meets the contract of `list` answers and leaves so
+abbrev pub ListSo : ListRow → Type 0
+ListSo r =
+    Listing (r .text) (r .from) (r .lent) (r .answer) (r .records) (r .left) ×
+    ((q : Listed) (new : List ℕ) → Lists (r .text) (r .from) (r .lent) q new
+    → (answerOf q ≡ r .answer) × (recordsIn q ≡ r .records) × (new ≡ r .left))
+
+-- no text of the table is too long
+abbrev fits : ListRow → Bool
+fits r = leb (length (r .text)) longestText
+
+all-fit : every fits lists ≡ true
+unfolding lists
+all-fit = refl
+
+list-so : (r : ListRow) → fits r ≡ true → Gives-row r → ListSo r
+unfolding Lists
+list-so r f x = (x, so)
   where
-    every-row : (l : List ListRow) → map (λ r. listGiven r (listWalk r)) l ≡ map (λ r. r ∷ []) l → Every Listed l
-    every-row [] e = tt
-    every-row (r ∷ l) e =
+    so : (q : Listed) (new : List ℕ) → Lists (r .text) (r .from) (r .lent) q new
+        → (answerOf q ≡ r .answer) × (recordsIn q ≡ r .records) × (new ≡ r .left)
+    so q new (inl (h, x, y, z)) = let l = leb→le (length (r .text)) longestText (subst T (sym f) tt) in absurd (omega arith)
+    so q new (inr (h, y)) =
+        listing-unique (r .text) (r .from) (r .lent) (answerOf q) (r .answer) (recordsIn q) (r .records) new (r .left) y x
+
+-- The rows of the table hold of List.
+pub list-texts : Every ListSo lists
+list-texts = every-row lists computed-lists all-fit
+  where
+    every-row : (l : List ListRow) → map (λ r. listGiven r (listWalk r)) l ≡ map (λ r. r ∷ []) l → every fits l ≡ true → Every ListSo l
+    every-row [] e f = tt
+    every-row (r ∷ l) e f =
         let n = length (r .lent) in
-        let right = from-here (HasRoom n) (hasRoom n) (room-decides n) (r .text) (r .from) 20 in
-        (list-row r (listWalk r) right (head-eq-of-cons-eq e), every-row l (tail-eq-of-cons-eq e))
+        let right = from-here (HasRoom n) (hasRoom n) (room-decides n) (r .text) (r .from) 20 in (
+          list-so r (and-left (fits r) (every fits l) f) (list-row r (listWalk r) right (head-eq-of-cons-eq e)),
+          every-row l (tail-eq-of-cons-eq e) (and-right (fits r) (every fits l) f),
+        )

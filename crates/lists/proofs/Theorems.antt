@@ -1,20 +1,20 @@
 -- For readers. `gapless-run-of-longest-in-one-class`: List's lexemes follow one another, each the longest and in one class. `list-unique`,
--- `cut-unique`: two answers that meet a contract, and two lists, are equal. `reaches-the-end`: where List is not refused, its lexemes lead to the text's length. `too-long`, `past-end`: the refusals
--- that come first. `one-run`: every text, of any length, has one run of lexemes from every offset. The tables of texts: TextLaws.antt.
--- Assumes nothing.
+-- `cut-unique`: two answers that meet a contract, and two lists, are equal. `reaches-the-end`: where List is not refused, its lexemes lead
+-- to the text's length. `too-long`, `past-end`: the refusals that come first. `one-run`: every text, of any length, has one run of lexemes
+-- from every offset, up to its end or the first malformed one. The tables of texts: TextLaws.antt. Assumes nothing.
 use Prim.Native.Nat.{ℕ, _+_, _-_, _≤_, _<_}
 use native.Mathlib.Omega.{arith}
 use mathlib.Core.Path.{_≡_, refl, sym, _∙_, ap, subst₂}
-use mathlib.Core.Bool.{Bool, true, false, cond}
+use mathlib.Core.Bool.{Bool, true, false, cond, true≢false}
 use mathlib.Core.List.{List, [], _++_}
 use mathlib.Core.Logic.{inl, inr}
 use lib.Dec.{eqb}
-use lib.ListN.{length, drop}
+use lib.ListN.{length, take, drop}
 use Rattle.keywords.specs.Kinds.{kind}
 use Rattle.grammar.specs.Classes.{rules}
-use Rattle.grammar.specs.Answers.{Answer, token, end, refusal, refusalNumber}
-use Rattle.grammar.specs.Longest.{Every, Gives}
-use Rattle.grammar.proofs.Tokens.{told}
+use Rattle.grammar.specs.Answers.{Answer, token, end, refusal, isRefusal}
+use Rattle.grammar.specs.Longest.{Gives}
+use Rattle.grammar.proofs.Tokens.{told, refuses}
 use Rattle.lexer.specs.declared.cursor.Cursor.{Cursor}
 use Rattle.lexer.specs.declared.lexed.Refusal.{Refusal}
 use Rattle.lexer.specs.declared.lexed.Refusal.the-variants.{UnrecognizedToken, UnterminatedLiteral, BadNumber, BadFractionalPart}
@@ -26,12 +26,13 @@ use Rattle.lists.specs.declared.list.Listed.{Listed}
 use Rattle.lists.specs.declared.list.Listed.the-variants.{End, Refused, TooLong, ListFull}
 use Rattle.lists.specs.declared.cut.Statement.{Statement}
 use Rattle.lists.specs.declared.cut.Statement.the-variants.{Cut, Open, End as Over, Refused as Bad}
+use Rattle.lists.specs.Refusals.{listRefusal}
 use Rattle.lists.specs.Walk.{Legal, tokenOf, Always, Passes, Walk}
 use Rattle.lists.specs.Lists.{recordsOf, HasRoom, listAnswer, longestText, Listing, answerOf, recordsIn, Lists}
-use Rattle.lists.specs.Cuts.{CutAnswer, cut, opened, ended, refused, NoSemi, someNotNone, cutAnswer, valuesOf, Cuts}
-use Rattle.lists.specs.Gapless.{InOneClass, Follow, Ends, Gapless}
+use Rattle.lists.specs.Cuts.{CutAnswer, cut, opened, ended, refused, NoSemi, someNotNone, cutAnswer, Cutting, valuesOf, Cuts}
+use Rattle.lists.specs.Gapless.{Follow, Each, RunEnds, Ends, Gapless}
 use Rattle.lists.proofs.WalkLaws.{legal, is-legal, refusal-no-token, known, passes-ahead, walk-one, run}
-use Rattle.lists.proofs.GaplessLaws.{passes-follow, passes-each, gapless}
+use Rattle.lists.proofs.GaplessLaws.{passes-follow, passes-each, always-ends, gapless}
 
 -- What List's lexemes are.
 pub gapless-run-of-longest-in-one-class : (s : List ℕ) (from : ℕ) (old : List ℕ) (r : Listed) (new : List ℕ) → length s ≤ longestText
@@ -43,8 +44,8 @@ gapless-run-of-longest-in-one-class s from old r new h (inr (l, x)) = gapless s 
 -- An answer of List can be read back from its values.
 abbrev refusedOf : ℕ → ℕ → ℕ → ℕ → ℕ → Listed
 refusedOf k start n offset records =
-    cond (eqb k (refusalNumber "TooLong")) (TooLong (cursor offset))
-    (cond (eqb k (refusalNumber "ListFull")) (ListFull records (cursor offset)) (Refused (refusalOf k) start n records (cursor offset)))
+    cond (eqb k (listRefusal "TooLong")) (TooLong (cursor offset))
+    (cond (eqb k (listRefusal "ListFull")) (ListFull records (cursor offset)) (Refused (refusalOf k) start n records (cursor offset)))
 
 abbrev listedOf : Answer → ℕ → Listed
 listedOf (token k start n next) records = End records (cursor next)
@@ -72,7 +73,7 @@ same-values : (r q : Listed) → answerOf r ≡ answerOf q → recordsIn r ≡ r
 same-values r q a m =
     sym (listed-back r) ∙ ap (λ (b : Answer). listedOf b (recordsIn r)) a ∙ ap (listedOf (answerOf q)) m ∙ listed-back q
 
-listing-unique : (s : List ℕ) (from : ℕ) (old : List ℕ) (a b : Answer) (m n : ℕ) (new new′ : List ℕ)
+pub listing-unique : (s : List ℕ) (from : ℕ) (old : List ℕ) (a b : Answer) (m n : ℕ) (new new′ : List ℕ)
     → Listing s from old a m new → Listing s from old b n new′ → (a ≡ b) × (m ≡ n) × (new ≡ new′)
 listing-unique s from old a b m n new new′ x y =
     let (p, q, t) = walk-one (HasRoom (length old)) s from (x .walk) (y .walk) in (
@@ -105,14 +106,17 @@ statement-back (Open start n next) = refl
 statement-back (Over next) = refl
 statement-back (Bad why start n next) = ap (λ (w : Refusal). Bad w start n next) (refusal-back why)
 
+pub cutting-unique : (s : List ℕ) (from : ℕ) (a b : CutAnswer) → Cutting s from a → Cutting s from b → a ≡ b
+cutting-unique s from a b x y =
+    let (p, e, t) = walk-one NoSemi s from (x .walk) (y .walk) in
+    x .answers ∙ ap (λ (l : List Legal). cutAnswer from (someNotNone l) (x .walk .there)) p ∙
+    ap (cutAnswer from (someNotNone (y .walk .passed))) t ∙ sym (y .answers)
+
 -- The contract of `cut` leaves one answer.
 pub cut-unique : (s : List ℕ) (from : ℕ) (r q : Statement) → Cuts s from r → Cuts s from q → r ≡ q
 unfolding Cuts
 cut-unique s from r q x y =
-    let (p, e, t) = walk-one NoSemi s from (x .walk) (y .walk) in
-    let a = ap (λ (l : List Legal). cutAnswer from (someNotNone l) (x .walk .there)) p in
-    let b = ap (cutAnswer from (someNotNone (y .walk .passed))) t in
-    sym (statement-back r) ∙ ap statementOf (x .answers ∙ a ∙ b ∙ sym (y .answers)) ∙ statement-back q
+    sym (statement-back r) ∙ ap statementOf (cutting-unique s from (valuesOf r) (valuesOf q) x y) ∙ statement-back q
 
 -- A text that is too long is refused first; the list stays as it was.
 pub too-long : (s : List ℕ) (from : ℕ) (old : List ℕ) (r : Listed) (new : List ℕ) → longestText < length s → Lists s from old r new
@@ -143,10 +147,12 @@ past-end s from old r new short h x =
 
 ends-so : (s : List ℕ) (numbers : ℕ) (l : List Legal) (to offset : ℕ) → Ends s numbers l to (end offset)
     → (offset ≡ to) × (to ≡ length s)
-ends-so s numbers l to offset (inl (h, e)) = let z : _≡_ {A = ℕ} 0 1 = cc in absurd (omega arith)
-ends-so s numbers l to offset (inr (inl (h, e))) = (cc, h)
-ends-so s numbers l to offset (inr (inr (inl (k, start, m, o, n, e, c)))) = let z : _≡_ {A = ℕ} 0 1 = cc in absurd (omega arith)
-ends-so s numbers l to offset (inr (inr (inr (t, c, f, e)))) = let z : _≡_ {A = ℕ} 0 1 = cc in absurd (omega arith)
+ends-so s numbers l to offset (inl (inl (h, e))) = let z : _≡_ {A = ℕ} 0 1 = cc in absurd (omega arith)
+ends-so s numbers l to offset (inl (inr (inl (h, e)))) = (cc, h)
+ends-so s numbers l to offset (inl (inr (inr (n, (c, bad, x, e))))) =
+    let f = ap isRefusal e ∙ refuses c to (take n (drop to s)) ∙ bad in
+    absurd (true≢false (sym f))
+ends-so s numbers l to offset (inr (t, c, f, e)) = let z : _≡_ {A = ℕ} 0 1 = cc in absurd (omega arith)
 
 -- Where no refusal comes, the lexemes that the list has lead to the text's length.
 pub reaches-the-end : (s : List ℕ) (from : ℕ) (old : List ℕ) (n : ℕ) (next : Cursor) (new : List ℕ) → Lists s from old (End n next) new
@@ -189,17 +195,19 @@ cut-ends-with-semi s from start n any next x = by-answer (x .walk .there) (x .wa
     by-answer (end offset) g stuck e = absurd (not-at-end (someNotNone (x .walk .passed)) offset e)
     by-answer (refusal k begin m offset) g stuck e = let z : _≡_ {A = ℕ} 0 1 = cc in absurd (omega arith)
 
--- Every text, of any length, has one run of lexemes from every offset, up to its end or the first refusal; they follow one another, each
--- the longest and in one class.
+-- Every text, of any length, has one run of lexemes from every offset. They follow one another, each the longest and in one class, and they
+-- end past the end, at the end, or at a malformed lexeme, whose class gives the refusal.
 pub one-run : (s : List ℕ) (from : ℕ)
     → (w : Walk Always s from) ×
     Follow from (w .passed) (w .to) ×
-    Every (λ t. InOneClass s (t .start) (t .length) (tokenOf t)) (w .passed) ×
+    Each s (w .passed) ×
+    RunEnds s (w .to) (w .there) ×
     ((v : Walk Always s from) → (v .passed ≡ w .passed) × (v .to ≡ w .to) × (v .there ≡ w .there))
 one-run s from =
     let w = run s from in (
       w,
       passes-follow Always s [] from (w .passed) (w .to) (w .passes),
       passes-each Always s [] from (w .passed) (w .to) (w .passes),
+      always-ends s from w,
       λ v. walk-one Always s from v w,
     )

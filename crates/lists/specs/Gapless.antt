@@ -3,39 +3,47 @@
 -- class gives the answer. Assumes nothing.
 use Prim.Native.Nat.{ℕ, _+_, _<_}
 use mathlib.Core.Path.{_≡_}
+use mathlib.Core.Bool.{Bool, true, false}
 use mathlib.Core.List.{List, [], _∷_, _++_}
 use mathlib.Core.Logic.{_⊎_}
 use lib.ListN.{length, take, drop}
-use Rattle.grammar.specs.Classes.{Class, rules}
-use Rattle.grammar.specs.Answers.{Answer, end, refusal, refusalNumber, answer}
+use Rattle.grammar.specs.Classes.{Class, malformed, rules}
+use Rattle.grammar.specs.Answers.{Answer, end, pastEnd, answer}
 use Rattle.grammar.specs.Longest.{Every, Longest}
 use Rattle.lists.specs.Walk.{Legal, tokenOf}
-use Rattle.lists.specs.Lists.{recordsOf, HasRoom}
+use Rattle.lists.specs.Lists.{recordsOf, listFull, HasRoom}
 
--- the first n bytes at a place are the longest opening that stands in any class; they stand in exactly one, and that class answers a
-abbrev pub InOneClass : List ℕ → ℕ → ℕ → Answer → Type 0
-InOneClass s at n a = (c : Class) × Longest rules (drop at s) c n × (a ≡ answer c at (take n (drop at s)))
+-- the first n bytes at a place are the longest opening that stands in any class; they stand in exactly one, which is malformed or not, and
+-- that class answers a
+abbrev pub InOneClass : Bool → List ℕ → ℕ → ℕ → Answer → Type 0
+InOneClass bad s at n a =
+    (c : Class) × (malformed c ≡ bad) × Longest rules (drop at s) c n × (a ≡ answer c at (take n (drop at s)))
 
 -- the lexemes follow one another from one place to another, without gap or overlap; none is empty
 unfoldable pub Follow : ℕ → List Legal → ℕ → Type 0
 Follow from [] to = from ≡ to
 Follow from (t ∷ l) to = (t .start ≡ from) × (0 < t .length) × Follow (from + t .length) l to
 
--- where they end: past the end of the text, at its end, at a malformed lexeme, or at a legal one for which there is no room
+-- each is legal
+abbrev pub Each : List ℕ → List Legal → Type 0
+Each s lexemes = Every (λ t. InOneClass false s (t .start) (t .length) (tokenOf t)) lexemes
+
+-- where a run of lexemes ends: past the end of the text, at its end, or at a malformed one, whose class gives the refusal
+abbrev pub RunEnds : List ℕ → ℕ → Answer → Type 0
+RunEnds s to a = ((length s < to) × (a ≡ pastEnd to)) ⊎ ((to ≡ length s) × (a ≡ end to)) ⊎ ((n : ℕ) × InOneClass true s to n a)
+
+-- List ends there too, or at a legal one for which there is no room
 abbrev pub Ends : List ℕ → ℕ → List Legal → ℕ → Answer → Type 0
 Ends s room lexemes to a =
-    ((length s < to) × (a ≡ refusal (refusalNumber "OffsetPastEnd") 0 0 to)) ⊎
-    ((to ≡ length s) × (a ≡ end to)) ⊎
-    ((number : ℕ) × (start : ℕ) × (m : ℕ) × (offset : ℕ) × (n : ℕ) × (a ≡ refusal number start m offset) × InOneClass s to n a) ⊎
-    ((t : Legal) × InOneClass s to (t .length) (tokenOf t) × (HasRoom room lexemes t → ⊥) ×
-    (a ≡ refusal (refusalNumber "ListFull") to 0 to))
+    RunEnds s to a ⊎
+    ((t : Legal) × InOneClass false s to (t .length) (tokenOf t) × (HasRoom room lexemes t → ⊥) × (a ≡ listFull to))
 
 -- the whole: the answer and the records written belong to such lexemes, and the list begins with their records
 pub record Gapless (s : List ℕ) (from : ℕ) (old : List ℕ) (a : Answer) (records : ℕ) (new : List ℕ) : Type 0 where
   pub lexemes : List Legal
   pub to : ℕ
   pub follow : Follow from lexemes to
-  pub each : Every (λ t. InOneClass s (t .start) (t .length) (tokenOf t)) lexemes
+  pub each : Each s lexemes
   pub ends : Ends s (length old) lexemes to a
   pub counted : records ≡ length lexemes
   pub written : new ≡ recordsOf lexemes ++ drop (length (recordsOf lexemes)) old

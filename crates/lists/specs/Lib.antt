@@ -1,3 +1,4 @@
+pub mod Refusals
 pub mod Walk
 pub mod Lists
 pub mod Cuts

@@ -4,10 +4,11 @@ use mathlib.Core.Path.{_≡_}
 use mathlib.Core.List.{List, [], _∷_, _++_}
 use mathlib.Core.Logic.{_⊎_}
 use lib.ListN.{length, drop, set}
-use Rattle.grammar.specs.Answers.{Answer, token, end, refusal, refusalNumber}
+use Rattle.grammar.specs.Answers.{Answer, token, end, refusal}
 use Rattle.lexer.specs.Values.{numberOf}
 use Rattle.lists.specs.declared.list.Listed.{Listed}
 use Rattle.lists.specs.declared.list.Listed.the-variants.{End, Refused, TooLong, ListFull}
+use Rattle.lists.specs.Refusals.{listRefusal}
 use Rattle.lists.specs.Walk.{Legal, Goes, Walk}
 
 -- a record's numbers
@@ -18,13 +19,20 @@ unfoldable pub recordsOf : List Legal → List ℕ
 recordsOf [] = []
 recordsOf (t ∷ l) = recordOf t ++ recordsOf l
 
+-- List's own refusals: a text that is too long, from a place; a lexeme without a place, at its start
+abbrev pub tooLong : ℕ → Answer
+tooLong from = refusal (listRefusal "TooLong") 0 0 from
+
+abbrev pub listFull : ℕ → Answer
+listFull at = refusal (listRefusal "ListFull") at 0 at
+
 -- in a list of so many numbers a whole record is free behind those of `before`
 abbrev pub HasRoom : ℕ → Goes
 HasRoom room before t = length (recordsOf before) + length (recordOf t) ≤ room
 
 -- the answer by what Next gives where the walk stops: End and a refusal as they are; a legal lexeme has no place
 abbrev pub listAnswer : ℕ → Answer → Answer
-listAnswer at (token kind start n next) = refusal (refusalNumber "ListFull") at 0 at
+listAnswer at (token kind start n next) = listFull at
 listAnswer at (end offset) = end offset
 listAnswer at (refusal number start n offset) = refusal number start n offset
 
@@ -39,8 +47,8 @@ pub record Listing (s : List ℕ) (from : ℕ) (old : List ℕ) (answer : Answer
 abbrev pub answerOf : Listed → Answer
 answerOf (End records next) = end (next .at)
 answerOf (Refused why start n records next) = refusal (numberOf why) start n (next .at)
-answerOf (TooLong next) = refusal (refusalNumber "TooLong") 0 0 (next .at)
-answerOf (ListFull records next) = refusal (refusalNumber "ListFull") (next .at) 0 (next .at)
+answerOf (TooLong next) = tooLong (next .at)
+answerOf (ListFull records next) = listFull (next .at)
 
 abbrev pub recordsIn : Listed → ℕ
 recordsIn (End records next) = records
@@ -55,7 +63,7 @@ longestText = 65535
 -- the answer r, and the list afterwards: a text that is too long is refused first
 unfoldable pub Lists : List ℕ → ℕ → List ℕ → Listed → List ℕ → Type 0
 Lists s from old r new =
-    ((longestText < length s) × (answerOf r ≡ refusal (refusalNumber "TooLong") 0 0 from) × (recordsIn r ≡ 0) × (new ≡ old)) ⊎
+    ((longestText < length s) × (answerOf r ≡ tooLong from) × (recordsIn r ≡ 0) × (new ≡ old)) ⊎
     ((length s ≤ longestText) × Listing s from old (answerOf r) (recordsIn r) new)
 
 -- for a private function: three numbers at a place of a list

@@ -19,8 +19,10 @@ use lists::cut::Statement;
 use lists::cut::cut;
 use lists::list::Listed;
 use lists::list::list;
+use reader::read_at;
 use words::lookup::is_quotable_keyword;
 use words::lookup::keyword_or_id_token;
+ghost use Rattle.lexer.specs.Values.{Lexes};
 ghost use Rattle.printing.specs.Rows.{Within};
 
 // A line for each token, then END, the offset and the number of tokens, or the refusal, its span and the offset.
@@ -30,6 +32,7 @@ pub(crate) fn put_walk(
     names: &[u8; 2992],
     text: &[u8],
     offset: usize,
+    by_reader: bool,
 ) -> usize
     ensures { λ r. ⌜ Within (now (out .exit)) r ⌝ }
 {
@@ -37,7 +40,7 @@ pub(crate) fn put_walk(
     let mut end = at;
     let mut tokens = 0;
     loop {
-        match next(text, cursor) {
+        match lexed_at(text, cursor, by_reader) {
             Lexed::Token {
                 kind,
                 start,
@@ -57,6 +60,16 @@ pub(crate) fn put_walk(
             } => return put_refusal(out, end, why, start, length, next.at),
         }
     }
+}
+
+// The same answer, from `next` or through a reader.
+fn lexed_at(text: &[u8], cursor: Cursor, by_reader: bool) -> Lexed
+    ensures { λ r. ⌜ Lexes (now (text .entry)) (cursor .at) r ⌝ }
+{
+    if by_reader {
+        return read_at(text, cursor.at);
+    }
+    next(text, cursor)
 }
 
 // The lent numbers behind `list`, in one line, which shows also those that it leaves as they were: each is 4294967295 before. Then

@@ -7,13 +7,14 @@ use crate::kinds::all_names;
 use crate::records::Record;
 use crate::records::Unread;
 use crate::records::read_record;
+use crate::records::unread_none;
 use crate::replay::put_replay;
 use crate::row::flush;
 use crate::row::put;
 ghost use Rattle.printing.specs.Rows.{Within};
 
 // What is printed of a record: `next` walked over the text, a list of so many numbers, the statement cut, the text as a word; or, for
-// `Replay`, the walk, lists of several lengths and the cut.
+// `Replay`, the walk, the walk by a reader, lists of several lengths and the cut.
 pub enum Mode {
     Next,
     List(usize),
@@ -22,10 +23,7 @@ pub enum Mode {
     Replay,
 }
 
-// The most numbers that a list fills: three for each byte of the longest text.
-pub const MOST: usize = 196605;
-
-// Answers each record of standard input. One that is too long or cut off prints BADRECORD and is the last.
+// Answers each record of standard input. One that is too long or cut off, or cannot be read, prints BADRECORD and is the last.
 pub fn print_records(mode: Mode) {
     let names = all_names();
     // `Replay` lends four more than a list fills.
@@ -43,7 +41,7 @@ fn answer_records(
     row: &mut [u8],
     out: &mut [u8],
 ) {
-    let mut unread = Unread { from: 0, to: 0 };
+    let mut unread = unread_none();
     let mut at = 0;
     let mut turns = u64::MAX;
     while turns > 0 {
@@ -59,7 +57,11 @@ fn answer_records(
             return;
         };
         at = put_answer(out, at, mode, names, &row[start..end], offset, numbers);
-        unread = Unread { from: end, to };
+        unread = Unread {
+            from: end,
+            to,
+            failed: false,
+        };
         turns -= 1;
     }
     flush(out, at);

@@ -17,7 +17,21 @@ pub(crate) fn put_walk_block(
 ) -> usize
     ensures { λ r. ⌜ Within (now (out .exit)) r ⌝ }
 {
-    let end = put_walk(out, at, names, text, offset);
+    let end = put_walk(out, at, names, text, offset, false);
+    put_byte(out, end, b'\n')
+}
+
+// The same, by a reader.
+pub(crate) fn put_read_block(
+    out: &mut [u8],
+    at: usize,
+    names: &[u8; 2992],
+    text: &[u8],
+    offset: usize,
+) -> usize
+    ensures { λ r. ⌜ Within (now (out .exit)) r ⌝ }
+{
+    let end = put_walk(out, at, names, text, offset, true);
     put_byte(out, end, b'\n')
 }
 

@@ -10,3 +10,6 @@ mod records;
 mod replay;
 mod row;
 pub mod text;
+
+// The most numbers that a list fills: three for each byte of the longest text.
+pub const MOST: usize = 196605;

@@ -1,22 +1,30 @@
-// The records of standard input, read in pieces as large as the row of bytes allows. A record is an offset and a length, 4 bytes
-// each with the lowest first, then the text.
+// Standard input, read in pieces as large as the row of bytes allows, and its records. A record is an offset and a length, 4 bytes each
+// with the lowest first, then the text.
+use crate::row::complain;
 use libc::STDIN_FILENO;
 ghost use mathlib.Core.Path.{_≡_};
 ghost use Prim.Native.Nat.{_+_, _≤_, _<_};
 ghost use lib.ListN.{length};
-ghost use Rattle.printing.specs.Rows.{Inside, Holds};
+ghost use Rattle.printing.specs.Rows.{Inside, Fits, Holds};
 
 // The longest text of a record.
 pub(crate) const LONGEST_RECORD: usize = 65536;
 
-// The bytes of the row that are read and not used yet: from one place to before another.
+// The bytes of the row that are read and not used yet: from one place to before another. `failed`: a read failed behind them.
 pub(crate) struct Unread {
     pub(crate) from: usize,
     pub(crate) to: usize,
+    pub(crate) failed: bool,
+}
+
+// What one read gives: so many bytes, none at the end of the input; or it failed.
+enum Got {
+    Bytes(usize),
+    Failed,
 }
 
 // Text: where in the row it stands, and up to where the row is read. Over: the input ends where a record would start.
-// Bad: the record is longer than allowed or than the row, or cut off.
+// Bad: the record is longer than allowed or than the row, or cut off, or the input cannot be read.
 pub(crate) enum Record {
     Text {
         offset: usize,
@@ -54,18 +62,21 @@ fn move_to_front(row: &mut [u8], from: usize, n: usize)
     }
 }
 
-// One read behind the filled part; how many bytes came, none at the end of the input.
-fn read_behind(row: &mut [u8], filled: usize) -> usize
+// One read behind the filled part.
+fn read_behind(row: &mut [u8], filled: usize) -> Got
     requires { ⌜ filled ≤ length (now row) ⌝ }
-    ensures { λ r. ⌜ filled + r ≤ length (now (row .exit)) ⌝ }
+    ensures { λ r. ⌜ Fits (now (row .exit)) filled r ⌝ }
 {
     let part = &mut row[filled..];
     let got = libc::read(STDIN_FILENO, part);
-    io::count(got, part)
+    if got < 0 {
+        return Got::Failed;
+    }
+    Got::Bytes(io::count(got, part))
 }
 
-// At least n unread bytes, or all that the input still has and the row holds.
-fn fill(row: &mut [u8], unread: Unread, n: usize) -> Unread
+// At least n unread bytes, or all that the input still has and the row holds. A read that fails is told at once.
+pub(crate) fn fill(row: &mut [u8], unread: Unread, n: usize) -> Unread
     requires { ⌜ Inside (now row) unread ⌝ }
     ensures { λ r. ⌜ Inside (now (row .exit)) r ⌝ }
 {
@@ -76,18 +87,23 @@ fn fill(row: &mut [u8], unread: Unread, n: usize) -> Unread
     }
     move_to_front(row, from, filled);
     while filled < n {
-        let more = read_behind(row, filled);
-        if more == 0 {
+        let Got::Bytes(more) = read_behind(row, filled) else {
+            complain(b"standard input cannot be read\n");
             return Unread {
                 from: 0,
                 to: filled,
+                failed: true,
             };
+        };
+        if more == 0 {
+            break;
         }
         filled += more;
     }
     Unread {
         from: 0,
         to: filled,
+        failed: false,
     }
 }
 
@@ -100,7 +116,18 @@ fn inside(row: &[u8], unread: Unread) -> Unread
             return unread;
         }
     }
-    Unread { from: 0, to: 0 }
+    unread_none()
+}
+
+// Nothing is read yet.
+pub(crate) fn unread_none() -> Unread
+    ensures { λ r. ⌜ (r .from ≡ 0) × (r .to ≡ 0) ⌝ }
+{
+    Unread {
+        from: 0,
+        to: 0,
+        failed: false,
+    }
 }
 
 // The next record. Unread bytes that do not lie in the row count as none.
@@ -111,6 +138,9 @@ pub(crate) fn read_record(row: &mut [u8], unread: Unread) -> Record
     let head = fill(row, kept, 8);
     let from = head.from;
     let left = head.to - from;
+    if head.failed {
+        return Record::Bad;
+    }
     if left == 0 {
         return Record::Over;
     }

@@ -1,10 +1,11 @@
 // One text in all modes but `Word`. A list answers otherwise where it has no room for the text's records, so it is made at several
 // lengths.
-use crate::batch::MOST;
+use crate::MOST;
 use crate::blocks::first;
 use crate::blocks::least;
 use crate::blocks::put_cut_block;
 use crate::blocks::put_list_block;
+use crate::blocks::put_read_block;
 use crate::blocks::put_walk_block;
 use lexer::cursor::Cursor;
 use lists::list::LONGEST_TEXT;
@@ -24,7 +25,8 @@ pub(crate) fn put_replay(
     ensures { λ r. ⌜ Within (now (out .exit)) r ⌝ }
 {
     let walked = put_walk_block(out, at, names, text, offset);
-    let small = put_small(out, walked, text, offset, numbers);
+    let read = put_read_block(out, walked, names, text, offset);
+    let small = put_small(out, read, text, offset, numbers);
     let near = put_near(out, small, text, offset, numbers);
     put_cut_block(out, near, text, offset)
 }

@@ -1,14 +1,22 @@
 // What is printed, gathered in a row of bytes that is written whenever it is full: a call of the system for each piece would cost
 // more than the lexing. `at` is how many bytes of the row are filled; what puts something there answers the new number. A number
 // beyond the row counts as no bytes, and a row of no bytes prints nothing.
+use libc::STDERR_FILENO;
 use libc::STDOUT_FILENO;
 ghost use Rattle.io.specs.Counts.{Counts};
 ghost use Rattle.printing.specs.Rows.{Within};
 
-// Writes the filled bytes.
+// Writes the filled bytes, and tells where they cannot be written.
 pub(crate) fn flush(row: &[u8], at: usize) {
     let n = filled(row, at);
-    io::write_all(STDOUT_FILENO, &row[..n]);
+    if !io::write_all(STDOUT_FILENO, &row[..n]) {
+        complain(b"standard output cannot be written\n");
+    }
+}
+
+// A program has no exit status, and an error must not look like an answer: it goes to standard error.
+pub(crate) fn complain(what: &[u8]) {
+    io::write_all(STDERR_FILENO, what);
 }
 
 pub(crate) fn put_byte(row: &mut [u8], at: usize, b: u8) -> usize

@@ -1,23 +1,28 @@
 // Standard input as one text.
 use crate::answers::put_walk;
 use crate::kinds::all_names;
+use crate::records::fill;
+use crate::records::unread_none;
 use crate::row::flush;
 use crate::row::put;
-use libc::STDIN_FILENO;
 use lists::list::LONGEST_TEXT;
 
-// A line for each token, then how it ended. More than 65,535 bytes are refused as TooLong.
+// A line for each token, then how it ended. More than 65,535 bytes are refused as TooLong; of input that cannot be read nothing is printed.
 pub fn print_text() {
     let names = all_names();
     // It holds one byte more than the longest text, which is enough to know that a text is too long.
     let mut text = io::large_buffer();
     let mut out = io::large_buffer();
-    let n = io::read_full(STDIN_FILENO, &mut text);
+    let all = fill(&mut text, unread_none(), LONGEST_TEXT + 1);
+    if all.failed {
+        return;
+    }
+    let n = all.to;
     if LONGEST_TEXT < n {
         let end = put(&mut out, 0, b"TooLong\t0\t0\t0\n");
         flush(&out, end);
         return;
     }
-    let end = put_walk(&mut out, 0, &names, &text[..n], 0);
+    let end = put_walk(&mut out, 0, &names, &text[..n], 0, false);
     flush(&out, end);
 }

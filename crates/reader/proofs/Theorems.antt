@@ -1,6 +1,6 @@
 -- For readers. `next-unique`, `remaining-unique`: two results that meet a contract are equal, of `remaining` but for a name that no program
--- sees. `past-end`: what a reader gives whose offset lies past the end. `walks-on`: readers handed back one after the other lex a text as
--- `lexer::next` does. `moves-on`: a token leads on, inside the text. Assumes nothing.
+-- sees. `past-end`: what a reader gives whose offset lies past the end. `table-read`: readers handed back one after the other answer what the
+-- grammar's table says. `moves-on`: a token leads on, inside the text. Assumes nothing.
 use Prim.Native.Nat.{ℕ, _≤_, _<_}
 use native.Mathlib.Omega.{arith}
 use mathlib.Core.Path.{_≡_, refl, sym, _∙_, ap, subst₂}
@@ -9,7 +9,8 @@ use mathlib.Core.Logic.{inl}
 use lib.ListN.{length, drop, drop-of-length-le}
 use denote.Ref.{RefT, ptr, now}
 use Rattle.grammar.specs.Answers.{Answer, refusal}
-use Rattle.grammar.specs.Texts.{offset}
+use Rattle.grammar.specs.Longest.{Every}
+use Rattle.grammar.specs.Texts.{Row, offset, table}
 use Rattle.lexer.specs.declared.cursor.Cursor.{Cursor}
 use Rattle.lexer.specs.declared.cursor.Peek.the-variants.{Nothing}
 use Rattle.lexer.specs.declared.lexed.Lexed.{Lexed}
@@ -19,7 +20,7 @@ use Rattle.lexer.specs.Eaten.{cursor, head}
 use Rattle.lexer.specs.Values.{valuesOf, Lexes}
 use Rattle.lexer.proofs.EatLaws.{head-none}
 use Rattle.lexer.proofs.Moves.{moves}
-use Rattle.lexer.proofs.Theorems.{unique, Tells}
+use Rattle.lexer.proofs.Theorems.{unique, Tells, table-lexed}
 use Rattle.reader.specs.declared.Reader.{Reader}
 use Rattle.reader.specs.declared.Read.{Read}
 use Rattle.reader.specs.Reads.{Remains, ReadsOn, offsetOf}
@@ -71,22 +72,38 @@ past-end d past = (
     refuses : ReadsOn d refused
     refuses = record { answers = inl (past, refl); same-text = refl; goes-on = refl }
 
--- Where `lexer::next`, asked again where each answer goes on, answers a row of answers, `next` gives the first, and with the reader that it
--- hands back the others: so with a reader too the rows of the grammar's table hold (`table-lexed`).
-pub walks-on : (d : Reader) (r : Read) (a : Answer) (l : List Answer) → ReadsOn d r → Tells (now (d .text)) (d .offset) (a ∷ l)
-    → (valuesOf (r .lexed) ≡ a) × Tells (now (r .reader .text)) (r .reader .offset) l
-walks-on d r a l x t = (first, subst₂ (λ (s : List ℕ) (at : ℕ). Tells s at l) (ap now (sym (x .same-text))) there (t .1))
+-- whatever meets the contract of `next`, asked with one reader that it hands back after the other, answers so
+abbrev pub ReadsSo : Reader → List Answer → Type 0
+ReadsSo d [] = Unit {0}
+ReadsSo d (a ∷ l) = (r : Read) → ReadsOn d r → (valuesOf (r .lexed) ≡ a) × ReadsSo (r .reader) l
+
+offset-of : (q : Lexed) → offset (valuesOf q) ≡ offsetOf q
+offset-of (Token k start n next) = refl
+offset-of (End next) = refl
+offset-of (Refused why start n next) = refl
+
+-- where `lexer::next`, asked again where each answer goes on, answers a row of answers, a reader does so too
+reads-so : (l : List Answer) (d : Reader) → Tells (now (d .text)) (d .offset) l → ReadsSo d l
+reads-so [] d t = tt
+reads-so (a ∷ l) d t = λ r x.
+    let first = t .0 (r .lexed) (x .answers) in
+    let there = ap offset (sym first) ∙ offset-of (r .lexed) ∙ sym (x .goes-on) in
+    (first, reads-so l (r .reader) (subst₂ (λ (s : List ℕ) (at : ℕ). Tells s at l) (ap now (sym (x .same-text))) there (t .1)))
+
+-- a reader that holds a row's text, at the row's offset, answers what the row says
+abbrev pub RowRead : Row → Type 0
+RowRead row = (d : Reader) → now (d .text) ≡ row .text → d .offset ≡ row .from → ReadsSo d (row .answers)
+
+-- The rows of the grammar's table hold of readers.
+pub table-read : Every RowRead table
+table-read = every-row table table-lexed
   where
-    first : valuesOf (r .lexed) ≡ a
-    first = t .0 (r .lexed) (x .answers)
-
-    goes-there : (q : Lexed) → offset (valuesOf q) ≡ offsetOf q
-    goes-there (Token k start n next) = refl
-    goes-there (End next) = refl
-    goes-there (Refused why start n next) = refl
-
-    there : offset a ≡ r .reader .offset
-    there = ap offset (sym first) ∙ goes-there (r .lexed) ∙ sym (x .goes-on)
+    every-row : (l : List Row) → Every (λ r. Tells (r .text) (r .from) (r .answers)) l → Every RowRead l
+    every-row [] e = tt
+    every-row (row ∷ l) e = (
+      λ d p q. reads-so (row .answers) d (subst₂ (λ (s : List ℕ) (at : ℕ). Tells s at (row .answers)) (sym p) (sym q) (e .0)),
+      every-row l (e .1),
+    )
 
 -- The reader behind a token stands behind the one given, and inside the text or at its end.
 pub moves-on : (d : Reader) (k start n : ℕ) (next : Cursor) (r : Reader) → ReadsOn d (record { lexed = Token k start n next; reader = r })

@@ -1,5 +1,5 @@
 // The mode that the program's arguments ask for.
-use printing::batch::MOST;
+use printing::MOST;
 use printing::batch::Mode;
 ghost use Prim.Native.Nat.{_≤_, _<_};
 

@@ -6,10 +6,11 @@ use Prim.Native.String
 use Prim.Native.String.{String}
 use mathlib.Core.Bool.{Bool, true, false, cond}
 use mathlib.Core.List.{List, [], _∷_}
-use lib.Dec.{leb, ltb}
+use lib.Dec.{eqb, leb, ltb}
 use lib.ListN.{getD}
 use Rattle.keywords.specs.Kinds.{kindNames}
-use Rattle.grammar.specs.Answers.{Answer, token, end, refusal, refusalNames}
+use Rattle.grammar.specs.Refusals.{Named, refusals}
+use Rattle.grammar.specs.Answers.{Answer, token, end, refusal}
 
 pub record Line : Type 0 where
   pub text : String
@@ -40,10 +41,14 @@ decimal (suc n) k =
 abbrev number : ℕ → String
 number k = String._++_ "," (decimal 20 k)
 
+abbrev nameIn : List Named → ℕ → String
+nameIn [] k = ""
+nameIn (r ∷ rs) k = cond (eqb k (r .number)) (r .name) (nameIn rs k)
+
 abbrev pub shown : Answer → String
 shown (token k start n next) = String._++_ (getD kindNames k "") (String._++_ (number start) (number n))
 shown (end at) = String._++_ "END" (number at)
-shown (refusal k start n at) = String._++_ (getD refusalNames (k - 1) "") (String._++_ (number start) (String._++_ (number n) (number at)))
+shown (refusal k start n at) = String._++_ (nameIn refusals k) (String._++_ (number start) (String._++_ (number n) (number at)))
 
 abbrev pub isToken : Answer → Bool
 isToken (token k start n next) = true
