@@ -240,6 +240,7 @@ static void print_cut(size_t offset)
 static void print_replay(size_t offset)
 {
     size_t tokens = print_walk(offset);
+    (void)print_walk(offset); /* the program replay has this one from a reader, which C has not */
     size_t enough = text_length > SQLLEX_LONGEST_TEXT ? 0 : tokens * SQLLEX_RECORD_WIDTH;
     for (size_t length = 0; length < 8; length++)
         print_list(offset, length);

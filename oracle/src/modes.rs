@@ -50,9 +50,10 @@ impl Mode {
     }
 }
 
-/// What the program `replay` prints of a record: Next, List with too few, just enough and more numbers, and the cut.
+/// What the program `replay` prints of a record: Next, Next by a reader, List with too few, just enough and more numbers, and the cut.
 pub fn print_replay(out: &mut impl Write, offset: usize, text: &[u8]) -> io::Result<()> {
     let (_, records) = list::list(&mut vec![0; list::MOST], text, offset)?;
+    Mode::Next.print(out, offset, text)?;
     Mode::Next.print(out, offset, text)?;
     for n in (0..8).chain([(3 * records).saturating_sub(1), 3 * records, 3 * records + 4]) {
         Mode::List(n).print(out, offset, text)?;

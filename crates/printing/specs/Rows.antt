@@ -1,10 +1,8 @@
 -- Places in the rows of bytes that a program reads into and writes from. Assumes nothing.
-use Prim.Native.Nat.{ℕ, _+_, _≤_}
+use Prim.Native.Nat.{ℕ, _≤_}
 use mathlib.Core.List.{List}
 use lib.ListN.{length}
 use Rattle.printing.specs.declared.records.Unread.{Unread}
-use Rattle.printing.specs.declared.records.Got.{Got}
-use Rattle.printing.specs.declared.records.Got.the-variants.{Bytes, Failed}
 use Rattle.printing.specs.declared.records.Record.{Record}
 use Rattle.printing.specs.declared.records.Record.the-variants.{Text, Over, Bad}
 
@@ -15,11 +13,6 @@ Within row n = n ≤ length row
 -- what is unread lies in the row
 abbrev pub Inside : List ℕ → Unread → Type 0
 Inside row u = (u .from ≤ u .to) × (u .to ≤ length row)
-
--- what one read gave lies behind what was filled
-abbrev pub Fits : List ℕ → ℕ → Got → Type 0
-Fits row filled (Bytes n) = filled + n ≤ length row
-Fits row filled Failed = Unit {0}
 
 -- a text lies in what is read of the row
 abbrev pub Holds : List ℕ → Record → Type 0

@@ -5,7 +5,7 @@ use libc::STDIN_FILENO;
 ghost use mathlib.Core.Path.{_≡_};
 ghost use Prim.Native.Nat.{_+_, _≤_, _<_};
 ghost use lib.ListN.{length};
-ghost use Rattle.printing.specs.Rows.{Inside, Fits, Holds};
+ghost use Rattle.printing.specs.Rows.{Inside, Holds};
 
 // The longest text of a record.
 pub(crate) const LONGEST_RECORD: usize = 65536;
@@ -17,10 +17,10 @@ pub(crate) struct Unread {
     pub(crate) failed: bool,
 }
 
-// What one read gives: so many bytes, none at the end of the input; or it failed.
-enum Got {
-    Bytes(usize),
-    Failed,
+// What one read gives: so many bytes, none at the end of the input and where it failed.
+struct Got {
+    bytes: usize,
+    failed: bool,
 }
 
 // Text: where in the row it stands, and up to where the row is read. Over: the input ends where a record would start.
@@ -65,17 +65,29 @@ fn move_to_front(row: &mut [u8], from: usize, n: usize)
 // One read behind the filled part.
 fn read_behind(row: &mut [u8], filled: usize) -> Got
     requires { ⌜ filled ≤ length (now row) ⌝ }
-    ensures { λ r. ⌜ Fits (now (row .exit)) filled r ⌝ }
+    ensures { λ r. ⌜ filled + r .bytes ≤ length (now (row .exit)) ⌝ }
 {
     let part = &mut row[filled..];
     let got = libc::read(STDIN_FILENO, part);
-    if got < 0 {
-        return Got::Failed;
+    Got {
+        bytes: io::count(got, part),
+        failed: got < 0,
     }
-    Got::Bytes(io::count(got, part))
 }
 
-// At least n unread bytes, or all that the input still has and the row holds. A read that fails is told at once.
+// Behind so many bytes the input cannot be read, which is told at once.
+fn broken_off(filled: usize) -> Unread
+    ensures { λ r. ⌜ (r .from ≡ 0) × (r .to ≡ filled) ⌝ }
+{
+    complain(b"standard input cannot be read\n");
+    Unread {
+        from: 0,
+        to: filled,
+        failed: true,
+    }
+}
+
+// At least n unread bytes, or all that the input still has and the row holds.
 pub(crate) fn fill(row: &mut [u8], unread: Unread, n: usize) -> Unread
     requires { ⌜ Inside (now row) unread ⌝ }
     ensures { λ r. ⌜ Inside (now (row .exit)) r ⌝ }
@@ -87,18 +99,14 @@ pub(crate) fn fill(row: &mut [u8], unread: Unread, n: usize) -> Unread
     }
     move_to_front(row, from, filled);
     while filled < n {
-        let Got::Bytes(more) = read_behind(row, filled) else {
-            complain(b"standard input cannot be read\n");
-            return Unread {
-                from: 0,
-                to: filled,
-                failed: true,
-            };
-        };
-        if more == 0 {
+        let more = read_behind(row, filled);
+        if more.failed {
+            return broken_off(filled);
+        }
+        if more.bytes == 0 {
             break;
         }
-        filled += more;
+        filled += more.bytes;
     }
     Unread {
         from: 0,

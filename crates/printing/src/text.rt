@@ -3,6 +3,7 @@ use crate::answers::put_walk;
 use crate::kinds::all_names;
 use crate::records::fill;
 use crate::records::unread_none;
+use crate::row::filled;
 use crate::row::flush;
 use crate::row::put;
 use lists::list::LONGEST_TEXT;
@@ -17,7 +18,7 @@ pub fn print_text() {
     if all.failed {
         return;
     }
-    let n = all.to;
+    let n = filled(&text, all.to);
     if LONGEST_TEXT < n {
         let end = put(&mut out, 0, b"TooLong\t0\t0\t0\n");
         flush(&out, end);

@@ -19,17 +19,17 @@ advances : (s : List ℕ) (at : ℕ) {k start n : ℕ} {r : Lexed} {next : Curso
 advances s at e h = moves s at _ _ _ _ (subst (Lexes s at) e h)
 
 abbrev Inv-loop : tie.InvT-loop
-Inv-loop out₀ at names text offset cursor₀ end₀ tokens₀ out cursor end tokens =
+Inv-loop out₀ at names text offset by-reader cursor₀ end₀ tokens₀ out cursor end tokens =
     (length out ≡ length out₀) × (tokens ≤ cursor .at)
 
 abbrev μ-loop : tie.MeasureT-loop
-μ-loop out₀ at names text offset cursor₀ end₀ tokens₀ out cursor end tokens = length text - cursor .at
+μ-loop out₀ at names text offset by-reader cursor₀ end₀ tokens₀ out cursor end tokens = length text - cursor .at
 
 loop-holds : tie.Need-loop-holds Inv-loop μ-loop
 loop-holds c = search needs
 
-next-requires : tie.Need-next-requires Inv-loop μ-loop
-next-requires c κs = search needs
+lexed-at-requires : tie.Need-lexed-at-requires Inv-loop μ-loop
+lexed-at-requires c κs = search needs
 
 enum-known-kind : tie.Need-enum-known-kind Inv-loop μ-loop
 enum-known-kind c = search needs
@@ -42,7 +42,7 @@ add-tokens c =
     let t = c .before .before .before .before .before .before .before .before .before .before .before .args .text .now in
     let l = c .before .before .before .before .before .before .before in
     let e = c .before .before .before .before .before .kind .given .1 in
-    let h = advances t (l .before .loop .cursor .at) e (l .next .ensures) in
+    let h = advances t (l .before .loop .cursor .at) e (l .lexed-at .ensures) in
     omega arith
 
 loop-less : tie.Need-loop-less Inv-loop μ-loop
@@ -50,7 +50,7 @@ loop-less c =
     let t = c .before .before .before .before .before .before .before .before .before .before .before .args .text .now in
     let l = c .before .before .before .before .before .before .before in
     let e = c .before .before .before .before .before .kind .given .1 in
-    let h = advances t (l .before .loop .cursor .at) e (l .next .ensures) in
+    let h = advances t (l .before .loop .cursor .at) e (l .lexed-at .ensures) in
     omega arith
 
 loop-again : tie.Need-loop-again Inv-loop μ-loop
@@ -58,7 +58,7 @@ loop-again c =
     let t = c .before .before .before .before .before .before .before .before .before .before .before .args .text .now in
     let l = c .before .before .before .before .before .before .before in
     let e = c .before .before .before .before .before .kind .given .1 in
-    let h = advances t (l .before .loop .cursor .at) e (l .next .ensures) in
+    let h = advances t (l .before .loop .cursor .at) e (l .lexed-at .ensures) in
     search needs
 
 enum-known-next : tie.Need-enum-known-next Inv-loop μ-loop
@@ -92,7 +92,7 @@ put-walk-spec =
     Inv-loop
     μ-loop
     loop-holds
-    next-requires
+    lexed-at-requires
     enum-known-kind
     put-token-requires
     add-tokens

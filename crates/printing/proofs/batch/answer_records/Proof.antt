@@ -22,6 +22,9 @@ Inv-loop mode names numbers₀ row₀ out₀ unread₀ at₀ turns₀ numbers ro
 abbrev μ-loop : tie.MeasureT-loop
 μ-loop mode names numbers₀ row₀ out₀ unread₀ at₀ turns₀ numbers row out unread at turns = turns
 
+unread-none-requires : tie.Need-unread-none-requires Inv-loop μ-loop
+unread-none-requires c κs = search needs
+
 loop-holds : tie.Need-loop-holds Inv-loop μ-loop
 loop-holds c = search needs
 
@@ -97,6 +100,7 @@ answer-records-spec =
     (tie.spec
     Inv-loop
     μ-loop
+    unread-none-requires
     loop-holds
     read-record-requires
     enum-known-found

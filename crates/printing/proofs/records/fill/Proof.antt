@@ -27,6 +27,9 @@ loop-holds c = search needs
 read-behind-requires : tie.Need-read-behind-requires Inv-loop μ-loop
 read-behind-requires c κs = search needs
 
+broken-off-requires : tie.Need-broken-off-requires Inv-loop μ-loop
+broken-off-requires c κs = search needs
+
 same-length : tie.Need-same-length Inv-loop μ-loop
 same-length c = search needs
 
@@ -48,6 +51,12 @@ same-length-2 c = search needs
 returns-3 : tie.Need-returns-3 Inv-loop μ-loop
 returns-3 c = search needs
 
+same-length-3 : tie.Need-same-length-3 Inv-loop μ-loop
+same-length-3 c = search needs
+
+returns-4 : tie.Need-returns-4 Inv-loop μ-loop
+returns-4 c = search needs
+
 pub fill-spec : {M : Type 1} → statement M
 fill-spec =
     tie.close
@@ -59,10 +68,13 @@ fill-spec =
     move-to-front-requires
     loop-holds
     read-behind-requires
+    broken-off-requires
     same-length
     returns-2
     add-filled
     loop-less
     loop-again
     same-length-2
-    returns-3)
+    returns-3
+    same-length-3
+    returns-4)
