@@ -3,13 +3,14 @@ import functools
 import os
 import pathlib
 import re
+import shutil
 import subprocess
 
 from machines import HERE, M4, OUT, ROOT, X86, Missing, compile_c, need, run
 
 KIT = pathlib.Path(run("rt", "doc").strip()).parent.parent / "on" / os.uname().machine / "toolchain/bin"
 ARCHIVE, MODULE = ROOT / "target/staticlib/libcapi.a", OUT / "module.bc"
-X86_TARGET, RUSTC_FOR_M4 = "x86_64-unknown-linux-gnu", OUT / "rustc/usr/bin/rustc"
+X86_TARGET, UNPACKED = "x86_64-unknown-linux-gnu", OUT / "rustc/usr"  # what bench/setup unpacks
 REAL_MEMCHR = pathlib.Path("/usr/share/cargo/registry/memchr-2.5.0/src/lib.rs")
 # bench/setup fetches the source, which is compiled for both machines; Debian's library is x86-64 code.
 SQLITE_SOURCE, SQLITE_LIBRARY = OUT / "sqlite", pathlib.Path("/usr/lib/x86_64-linux-gnu/libsqlite3.a")
@@ -52,16 +53,31 @@ def of_list(machine):
     return [ARCHIVE if machine is X86 else compile_library(M4, OUT / "capi.Cortex-M4.o")]
 
 
+def has_x86(libraries):
+    """Whether a Rust compiler's folder has the core library for x86-64."""
+    return any(libraries.glob("libcore-*.rlib"))
+
+
+def rustc_for(machine):
+    """Which compiler builds the Rust: the one on the PATH, or the unpacked one, which the M4 needs."""
+    if machine is X86 and shutil.which("rustc"):
+        if has_x86(pathlib.Path(run("rustc", "--print", "target-libdir", "--target", X86_TARGET).strip())):
+            return "rustc"
+    if not (UNPACKED / "bin/rustc").exists():
+        raise Missing("no compiler with a core library for this machine is here (bench/setup unpacks one)")
+    if machine is X86 and not has_x86(UNPACKED / f"lib/rustlib/{X86_TARGET}/lib"):
+        raise Missing(f"neither rustc on the PATH nor the unpacked one has a core library for {X86_TARGET} (bench/setup)")
+    return "unpacked"
+
+
 @functools.cache
 def rust(machine, folder, memchr, *flags):
     need("cc", "Debian: gcc")  # links the keyword macro
-    if machine is M4 and not RUSTC_FOR_M4.exists():
-        raise Missing("a compiler with its core library's source is not here (bench/setup unpacks one)")
-    if machine is X86:
-        need("rustc", "Rust's own installer has it; Debian's is too old")
-        if not pathlib.Path(run("rustc", "--print", "target-libdir", "--target", X86_TARGET).strip()).exists():
-            raise Missing(f"rustc has no core library for {X86_TARGET} (rustup target add {X86_TARGET})")
-    run(HERE / "rust/build", OUT / folder, machine.name, memchr, *flags)
+    os.environ["RUSTC"] = rustc_for(machine)
+    try:
+        run(HERE / "rust/build", OUT / folder, machine.name, memchr, *flags)
+    except SystemExit as why:
+        raise Missing(f"the Rust for {machine.name} does not build\n{why}")
     return [OUT / folder / "liblist.a"]
 
 

@@ -47,14 +47,14 @@ def main():
     part("Instructions a byte, x86-64", instructions, X86, ["List", "Rust", "Rust+", "SQLite"])
     part("Instructions a byte, Cortex-M4", instructions, M4, ["List", "Rust", "SQLite"])
     worst = part("How List grows, x86-64: one text once, twice and four times", growth)
-    bound = max(part(f"Stack in bytes, {machine.name}", stacks, machine) for machine in (X86, M4))
+    bounds = [part(f"Stack in bytes, {machine.name}", stacks, machine) for machine in (X86, M4)]
     for machine in X86, M4:
         part(f"Code size in bytes, {machine.name}", sizes, machine)
     part("Code size in bytes, Cortex-M4: what List adds to a program", linked, M4)
     for machine in X86, M4:
         part(f"List by function, text sync, {machine.name}", profile, machine)
     print("\n== Targets")
-    good = test("stack bound of a whole call, in bytes, both machines", bound, MOST_STACK)
+    good = test("stack bound of a whole call, in bytes, both machines", max(bounds), MOST_STACK)
     if worst is None:
         print("SKIPPED  instructions a byte, and growth: nothing was counted")
     else:

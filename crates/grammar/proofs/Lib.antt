@@ -18,4 +18,3 @@ pub mod Scan
 pub mod RulePlaces
 pub mod Reading
 pub mod Places
-pub mod PageLaws

@@ -4,5 +4,4 @@ pub mod Refusals
 pub mod Answers
 pub mod Longest
 pub mod Texts
-pub mod Pages
 pub mod Runs

@@ -1,14 +1,10 @@
--- Places in the rows of bytes that a program reads into and writes from. Assumes nothing.
+-- Places in the row of bytes that a program reads into. Assumes nothing.
 use Prim.Native.Nat.{ℕ, _≤_}
 use mathlib.Core.List.{List}
 use lib.ListN.{length}
 use Rattle.printing.specs.declared.records.Unread.{Unread}
 use Rattle.printing.specs.declared.records.Record.{Record}
-use Rattle.printing.specs.declared.records.Record.the-variants.{Text, Over, Bad}
-
--- so many bytes of the row are filled
-abbrev pub Within : List ℕ → ℕ → Type 0
-Within row n = n ≤ length row
+use Rattle.printing.specs.declared.records.Record.the-variants.{Text, Over, Short, Bad}
 
 -- what is unread lies in the row
 abbrev pub Inside : List ℕ → Unread → Type 0
@@ -18,4 +14,5 @@ Inside row u = (u .from ≤ u .to) × (u .to ≤ length row)
 abbrev pub Holds : List ℕ → Record → Type 0
 Holds row (Text offset start end to) = (start ≤ end) × (end ≤ to) × (to ≤ length row)
 Holds row Over = Unit {0}
+Holds row (Short n) = Unit {0}
 Holds row Bad = Unit {0}

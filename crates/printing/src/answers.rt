@@ -7,11 +7,8 @@ use crate::lines::put_refusal;
 use crate::lines::put_statement;
 use crate::lines::put_token;
 use crate::lines::put_why;
-use crate::row::filled;
-use crate::row::put;
-use crate::row::put_byte;
-use crate::row::put_column;
-use crate::row::put_number;
+use crate::numbers::put_column;
+use crate::numbers::put_number;
 use lexer::cursor::Cursor;
 use lexer::lexed::Lexed;
 use lexer::next::next;
@@ -20,10 +17,13 @@ use lists::cut::cut;
 use lists::list::Listed;
 use lists::list::list;
 use reader::read_at;
+use rows::out::filled;
+use rows::out::put;
+use rows::out::put_byte;
 use words::lookup::is_quotable_keyword;
 use words::lookup::keyword_or_id_token;
 ghost use Rattle.lexer.specs.Values.{Lexes};
-ghost use Rattle.printing.specs.Rows.{Within};
+ghost use Rattle.rows.specs.Out.{Within};
 
 // A line for each token, then END, the offset and the number of tokens, or the refusal, its span and the offset.
 pub(crate) fn put_walk(

@@ -9,9 +9,9 @@ use crate::records::Unread;
 use crate::records::read_record;
 use crate::records::unread_none;
 use crate::replay::put_replay;
-use crate::row::flush;
-use crate::row::put;
-ghost use Rattle.printing.specs.Rows.{Within};
+use rows::out::flush;
+use rows::out::put;
+ghost use Rattle.rows.specs.Out.{Within};
 
 // What is printed of a record: `next` walked over the text, a list of so many numbers, the statement cut, the text as a word; or, for
 // `Replay`, the walk, the walk by a reader, lists of several lengths and the cut.
@@ -68,12 +68,12 @@ fn answer_records(
 }
 
 fn print_last(out: &mut [u8], at: usize, found: Record) {
-    let Record::Bad = found else {
-        flush(out, at);
+    let Record::Over = found else {
+        let end = put(out, at, b"BADRECORD\n");
+        flush(out, end);
         return;
     };
-    let end = put(out, at, b"BADRECORD\n");
-    flush(out, end);
+    flush(out, at);
 }
 
 fn put_answer(

@@ -3,10 +3,10 @@ use crate::answers::put_cut;
 use crate::answers::put_list;
 use crate::answers::put_walk;
 use crate::answers::put_word;
-use crate::row::put_byte;
+use rows::out::put_byte;
 ghost use Prim.Native.Nat.{_≤_};
 ghost use Rattle.io.specs.Counts.{Counts};
-ghost use Rattle.printing.specs.Rows.{Within};
+ghost use Rattle.rows.specs.Out.{Within};
 
 pub(crate) fn put_walk_block(
     out: &mut [u8],

@@ -1,9 +1,9 @@
 // The kinds' names. `names` makes all of them anew for each that it gives, which would cost more than the lexing: a program gathers
 // them once, 17 bytes each, and lends them on.
-use crate::row::filled;
-use crate::row::put_byte;
+use rows::out::filled;
+use rows::out::put_byte;
 ghost use Prim.Native.Nat.{_<_};
-ghost use Rattle.printing.specs.Rows.{Within};
+ghost use Rattle.rows.specs.Out.{Within};
 
 // The 176 names end to end, with dots behind each.
 pub(crate) fn all_names() -> [u8; 2992] {

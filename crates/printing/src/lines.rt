@@ -1,9 +1,9 @@
 // The lines that are printed: names and numbers with a tab between them.
 use crate::kinds::put_kind;
-use crate::row::put;
-use crate::row::put_column;
+use crate::numbers::put_column;
 use lexer::lexed::Refusal;
-ghost use Rattle.printing.specs.Rows.{Within};
+use rows::out::put;
+ghost use Rattle.rows.specs.Out.{Within};
 
 pub(crate) fn put_token(
     out: &mut [u8],

@@ -1,14 +1,12 @@
-// Standard input, read in pieces as large as the row of bytes allows, and its records. A record is an offset and a length, 4 bytes each
-// with the lowest first, then the text.
-use crate::row::complain;
+// Standard input, read in pieces as large as the row of bytes allows, and its records.
 use libc::STDIN_FILENO;
+use rows::out::complain;
+use rows::records::Found;
+use rows::records::record_at;
 ghost use mathlib.Core.Path.{_≡_};
 ghost use Prim.Native.Nat.{_+_, _≤_, _<_};
 ghost use lib.ListN.{length};
 ghost use Rattle.printing.specs.Rows.{Inside, Holds};
-
-// The longest text of a record.
-pub(crate) const LONGEST_RECORD: usize = 65536;
 
 // The bytes of the row that are read and not used yet: from one place to before another. `failed`: a read failed behind them.
 pub(crate) struct Unread {
@@ -23,8 +21,8 @@ struct Got {
     failed: bool,
 }
 
-// Text: where in the row it stands, and up to where the row is read. Over: the input ends where a record would start.
-// Bad: the record is longer than allowed or than the row, or cut off, or the input cannot be read.
+// Text: where in the row it stands, and up to where the row is read. Over: the input ends where a record would start. Short: a record
+// of at least so many bytes is cut off. Bad: its text is longer than allowed, or the input cannot be read.
 pub(crate) enum Record {
     Text {
         offset: usize,
@@ -33,22 +31,8 @@ pub(crate) enum Record {
         to: usize,
     },
     Over,
+    Short(usize),
     Bad,
-}
-
-fn wide(b: u8) -> usize
-    ensures { λ r. ⌜ r < 256 ⌝ }
-{
-    b as usize
-}
-
-// The number in the 4 bytes at a place, the lowest first.
-fn number(row: &[u8], at: usize) -> usize
-    requires { ⌜ at + 4 ≤ length (now row) ⌝ }
-{
-    let low = wide(row[at]) + 256 * wide(row[at + 1]);
-    let high = wide(row[at + 2]) + 256 * wide(row[at + 3]);
-    low + 65536 * high
 }
 
 fn move_to_front(row: &mut [u8], from: usize, n: usize)
@@ -138,38 +122,40 @@ pub(crate) fn unread_none() -> Unread
     }
 }
 
+// The record that the unread bytes begin with.
+fn found_in(row: &[u8], unread: Unread) -> Record
+    requires { ⌜ Inside (now row) unread ⌝ }
+    ensures { λ r. ⌜ Holds (now (row .entry)) r ⌝ }
+{
+    let from = unread.from;
+    let to = unread.to;
+    match record_at(&row[from..to]) {
+        Found::Text { offset, start, end } => Record::Text {
+            offset,
+            start: from + start,
+            end: from + end,
+            to,
+        },
+        Found::Short(n) => Record::Short(n),
+        Found::Bad => Record::Bad,
+    }
+}
+
 // The next record. Unread bytes that do not lie in the row count as none.
 pub(crate) fn read_record(row: &mut [u8], unread: Unread) -> Record
     ensures { λ r. ⌜ Holds (now (row .exit)) r ⌝ }
 {
     let kept = inside(row, unread);
     let head = fill(row, kept, 8);
-    let from = head.from;
-    let left = head.to - from;
     if head.failed {
         return Record::Bad;
     }
-    if left == 0 {
+    if head.from == head.to {
         return Record::Over;
     }
-    if left < 8 {
-        return Record::Bad;
-    }
-    let offset = number(row, from);
-    let length = number(row, from + 4);
-    if LONGEST_RECORD < length {
-        return Record::Bad;
-    }
-    let whole = fill(row, head, 8 + length);
-    let first = whole.from;
-    let to = whole.to;
-    if to - first < 8 + length {
-        return Record::Bad;
-    }
-    Record::Text {
-        offset,
-        start: first + 8,
-        end: first + 8 + length,
-        to,
-    }
+    let Record::Short(n) = found_in(row, head) else {
+        return found_in(row, head);
+    };
+    let whole = fill(row, head, n);
+    found_in(row, whole)
 }

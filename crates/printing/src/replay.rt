@@ -12,7 +12,7 @@ use lists::list::LONGEST_TEXT;
 use lists::list::Listed;
 use lists::list::list;
 ghost use Prim.Native.Nat.{_≤_};
-ghost use Rattle.printing.specs.Rows.{Within};
+ghost use Rattle.rows.specs.Out.{Within};
 
 pub(crate) fn put_replay(
     out: &mut [u8],

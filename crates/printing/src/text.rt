@@ -3,10 +3,10 @@ use crate::answers::put_walk;
 use crate::kinds::all_names;
 use crate::records::fill;
 use crate::records::unread_none;
-use crate::row::filled;
-use crate::row::flush;
-use crate::row::put;
 use lists::list::LONGEST_TEXT;
+use rows::out::filled;
+use rows::out::flush;
+use rows::out::put;
 
 // A line for each token, then how it ended. More than 65,535 bytes are refused as TooLong; of input that cannot be read nothing is printed.
 pub fn print_text() {

@@ -7,14 +7,14 @@ use mathlib.Core.Logic.{_↔_, _⊎_, inl, inr, Iff·rfl, Iff·trans}
 use lib.ListN.{take}
 use Rattle.keywords.proofs.Logic.{and-left, and-right}
 use Rattle.words.specs.Bytes.{isDigit, isHexdigit, isIdentifierStart, isIdentifierContinue, isBlank}
 use Rattle.grammar.specs.Form.{none, Form, anything, _·_, _∣_, _but_, Has, lit}
 use Rattle.grammar.specs.Classes.{Class, lineComment, blockComment, string, integer, float, blob, parameter, oddBlob, _is_, _is_before_, rules}
 use Rattle.grammar.specs.Longest.{Stands, Opens}
-use Rattle.grammar.specs.Pages
+use Rattle.pages.specs.Pages
 use Rattle.grammar.proofs.Equivalences.{both, one-of}
 use Rattle.grammar.proofs.States.{ruleAt}
 use Rattle.grammar.proofs.Equal.{isEqual, void, within, equal}
 use Rattle.grammar.proofs.ClassLaws.{only, one-rule, or-at-end}
 
 -- the form of a class's i-th rule, from 0, and of its first
 abbrev formAt : Class → ℕ → Form

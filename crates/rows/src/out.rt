@@ -3,11 +3,13 @@
 // beyond the row counts as no bytes, and a row of no bytes prints nothing.
 use libc::STDERR_FILENO;
 use libc::STDOUT_FILENO;
+ghost use mathlib.Core.Path.{_≡_};
+ghost use mathlib.Core.List.{List, [], _∷_};
 ghost use Rattle.io.specs.Counts.{Counts};
-ghost use Rattle.printing.specs.Rows.{Within};
+ghost use Rattle.rows.specs.Out.{Within, Gives, filledOf, oneMore, more};
 
 // Writes the filled bytes, and tells where they cannot be written.
-pub(crate) fn flush(row: &[u8], at: usize) {
+pub fn flush(row: &[u8], at: usize) {
     let n = filled(row, at);
     if !io::write_all(STDOUT_FILENO, &row[..n]) {
         complain(b"standard output cannot be written\n");
@@ -15,11 +17,12 @@ pub(crate) fn flush(row: &[u8], at: usize) {
 }
 
 // A program has no exit status, and an error must not look like an answer: it goes to standard error.
-pub(crate) fn complain(what: &[u8]) {
+pub fn complain(what: &[u8]) {
     io::write_all(STDERR_FILENO, what);
 }
 
-pub(crate) fn put_byte(row: &mut [u8], at: usize, b: u8) -> usize
+pub fn put_byte(row: &mut [u8], at: usize, b: u8) -> usize
+    ensures { λ r. ⌜ Gives (oneMore (now (row .entry)) at b) (now (row .exit)) r ⌝ }
     ensures { λ r. ⌜ Within (now (row .exit)) r ⌝ }
 {
     if at < row.len() {
@@ -34,7 +37,8 @@ pub(crate) fn put_byte(row: &mut [u8], at: usize, b: u8) -> usize
     1
 }
 
-pub(crate) fn put(row: &mut [u8], at: usize, text: &[u8]) -> usize
+pub fn put(row: &mut [u8], at: usize, text: &[u8]) -> usize
+    ensures { λ r. ⌜ Gives (more (now (row .entry)) (filledOf (now (row .entry)) at) (now (text .entry))) (now (row .exit)) r ⌝ }
     ensures { λ r. ⌜ Within (now (row .exit)) r ⌝ }
 {
     let mut end = filled(row, at);
@@ -46,25 +50,9 @@ pub(crate) fn put(row: &mut [u8], at: usize, text: &[u8]) -> usize
     end
 }
 
-// The number in decimal digits.
-pub(crate) fn put_number(row: &mut [u8], at: usize, n: usize) -> usize
-    ensures { λ r. ⌜ Within (now (row .exit)) r ⌝ }
-{
-    let mut digits = [0u8; 20];
-    let k = io::decimal(n as u64, &mut digits);
-    put(row, at, &digits[..k])
-}
-
-// A tab and the number.
-pub(crate) fn put_column(row: &mut [u8], at: usize, n: usize) -> usize
-    ensures { λ r. ⌜ Within (now (row .exit)) r ⌝ }
-{
-    let end = put_byte(row, at, b'\t');
-    put_number(row, end, n)
-}
-
 // How many bytes are filled.
-pub(crate) fn filled(row: &[u8], at: usize) -> usize
+pub fn filled(row: &[u8], at: usize) -> usize
+    ensures { λ r. ⌜ r ≡ filledOf (now (row .entry)) at ⌝ }
     ensures { λ r. ⌜ Counts r (now (row .entry)) ⌝ }
 {
     if at <= row.len() { at } else { 0 }

@@ -1,0 +1,3 @@
+pub mod OutLaws
+pub mod RecordLaws
+pub mod Theorems
