@@ -26,7 +26,7 @@ isRefusal (token kind start length next) = false
 isRefusal (end offset) = false
 isRefusal (refusal number start length offset) = true
 
--- past the end of the text
+-- past the end of the text: the empty span, and the offset as given
 abbrev pub pastEnd : ℕ → Answer
 pastEnd at = refusal (refusalNumber "OffsetPastEnd") 0 0 at
 
