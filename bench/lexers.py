@@ -70,15 +70,29 @@ def rustc_for(machine):
     return "unpacked"
 
 
-@functools.cache
-def rust(machine, folder, memchr, *flags):
+def build_rust(machine, folder, memchr, flags):
     need("cc", "Debian: gcc")  # links the keyword macro
     os.environ["RUSTC"] = rustc_for(machine)
     try:
         run(HERE / "rust/build", OUT / folder, machine.name, memchr, *flags)
     except SystemExit as why:
-        raise Missing(f"the Rust for {machine.name} does not build\n{why}")
+        first = next((line for line in str(why).splitlines() if line.startswith("error")), str(why).splitlines()[0])
+        raise Missing(f"the Rust for {machine.name} does not build ({first})")
     return [OUT / folder / "liblist.a"]
+
+
+BUILT = {}  # by folder: what is linked, or why there is none
+
+
+def rust(machine, folder, memchr, *flags):
+    if folder not in BUILT:
+        try:
+            BUILT[folder] = build_rust(machine, folder, memchr, flags)
+        except Missing as why:
+            BUILT[folder] = why
+    if isinstance(BUILT[folder], Missing):
+        raise BUILT[folder]
+    return BUILT[folder]
 
 
 def of_rust(machine):
