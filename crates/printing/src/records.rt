@@ -4,7 +4,7 @@ use rows::out::complain;
 use rows::records::Found;
 use rows::records::record_at;
 ghost use mathlib.Core.Path.{_≡_};
-ghost use Prim.Native.Nat.{_+_, _≤_, _<_};
+ghost use Prim.Native.Nat.{_+_, _≤_};
 ghost use lib.ListN.{length};
 ghost use Rattle.printing.specs.Rows.{Inside, Holds};
 

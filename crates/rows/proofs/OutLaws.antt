@@ -3,13 +3,13 @@ use Prim.Native.Nat.{ℕ, _+_, _≤_, _<_, min}
 use native.Mathlib.Nat.{min-eq-left}
 use native.Mathlib.Numerals.{add-one}
 use native.Mathlib.Omega.{arith}
-use mathlib.Core.Path.{_≡_, refl, sym, _∙_, ap}
-use mathlib.Core.List.{List, _∷_}
-use lib.ListN.{length, getD, take, drop, set}
+use mathlib.Core.Path.{_≡_, refl, sym, ap}
+use mathlib.Core.List.{List}
+use lib.ListN.{length, getD, drop, set, drop-of-length-le}
 use lib.Seq.{drop-cons, length-take-le, set-out}
 use borrow.Author.Tests.{lt-ltb, le-ltb, le-leb, lt-leb}
 use Rattle.io.specs.Counts.{Counts}
-use Rattle.rows.specs.Out.{Row, Gives, filledOf, oneMore, more}
+use Rattle.rows.specs.Out.{Gives, filledOf, oneMore, more}
 
 pub counts : (row : List ℕ) (n : ℕ) → n ≤ length row → Counts n row
 counts row n h = (h, sym (length-take-le n row h))
@@ -45,4 +45,4 @@ more-on row at text i h = rw (drop-cons text i 0 h, add-one)
 -- behind its last
 pub more-none : (row : List ℕ) (at : ℕ) (text : List ℕ) (i : ℕ) → length text ≤ i → more row at (drop i text) ≡ record { bytes = row; filled = at }
 unfolding more
-more-none row at text i h = ap (more row at) (lib.ListN.drop-of-length-le text {i = i} h)
+more-none row at text i h = ap (more row at) (drop-of-length-le text {i = i} h)

@@ -17,7 +17,7 @@ abbrev pub longestRecord : ℕ
 longestRecord = 65536
 
 -- with so many bytes in all
-abbrev whole : List ℕ → ℕ → Found
+abbrev pub whole : List ℕ → ℕ → Found
 whole row end = cond (ltb (length row) end) (Short end) (Text (numberAt row 0) 8 end)
 
 unfoldable pub recordAt : List ℕ → Found

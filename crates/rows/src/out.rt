@@ -4,7 +4,6 @@
 use libc::STDERR_FILENO;
 use libc::STDOUT_FILENO;
 ghost use mathlib.Core.Path.{_≡_};
-ghost use mathlib.Core.List.{List, [], _∷_};
 ghost use Rattle.io.specs.Counts.{Counts};
 ghost use Rattle.rows.specs.Out.{Within, Gives, filledOf, oneMore, more};
 

@@ -5,7 +5,7 @@ use mathlib.Core.Path.{_≡_, refl, sym, _∙_, ap, ap₂}
 use mathlib.Core.List.{List}
 use lib.ListN.{length, drop}
 use borrow.Author.Needs.{needs}
-use Rattle.rows.specs.Out.{Row, filledOf, more}
+use Rattle.rows.specs.Out.{Row, more}
 use Rattle.rows.proofs.OutLaws.{more-on, more-none}
 use Rattle.rows.proofs.out.put.Statement.{statement}
 use Rattle.rows.proofs.out.put.Tie as tie
@@ -41,7 +41,8 @@ loop-again c =
     let text = s .before .before .before .before .before .args .text .now in
     let (bytes, count) = c .before .before .put-byte .ensures .0 in
     let on = more-on (s .loop .row) (s .loop .end) text (s .loop .i) (omega arith) in
-    (ap₂ (λ (row : List ℕ) (end : ℕ). more row end (drop (s .loop .i + 1) text)) bytes count ∙ sym on ∙ s .loop .inv .0, search needs, search needs, omega arith)
+    let same = ap₂ (λ (row : List ℕ) (end : ℕ). more row end (drop (s .loop .i + 1) text)) bytes count in
+    (same ∙ sym on ∙ s .loop .inv .0, search needs, search needs, omega arith)
 
 same-length : tie.Need-same-length Inv-loop μ-loop
 same-length c = search needs
