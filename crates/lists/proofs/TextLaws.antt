@@ -154,10 +154,14 @@ cut-texts = every-row cuts computed-cuts
         let right = from-here NoSemi isOther semi-decides (r .text) (r .from) 20 in
         (cut-so r (cut-row r (cutWalk r) right (head-eq-of-cons-eq e)), every-row l (tail-eq-of-cons-eq e))
 
-abbrev Gives-row : ListRow → Type 0
-Gives-row r = Listing (r .text) (r .from) (r .lent) (r .answer) (r .records) (r .left)
+-- List gives what a row says; an answer and a list are those of a row
+abbrev pub RowListing : ListRow → Type 0
+RowListing r = Listing (r .text) (r .from) (r .lent) (r .answer) (r .records) (r .left)
 
-list-row : (r : ListRow) (w : Stop) → Right (HasRoom (length (r .lent))) (r .text) (r .from) w → listGiven r w ≡ r ∷ [] → Gives-row r
+abbrev pub OfRow : ListRow → Listed → List ℕ → Type 0
+OfRow r q new = (answerOf q ≡ r .answer) × (recordsIn q ≡ r .records) × (new ≡ r .left)
+
+list-row : (r : ListRow) (w : Stop) → Right (HasRoom (length (r .lent))) (r .text) (r .from) w → listGiven r w ≡ r ∷ [] → RowListing r
 list-row r nowhere x e = absurd (nil≢cons e)
 list-row r (stop l to there) (p, g, stuck) e =
     let same = sym (head-eq-of-cons-eq e) in
@@ -170,10 +174,7 @@ list-row r (stop l to there) (p, g, stuck) e =
 
 -- a row's answer, number of records and list are those of the definition, and whatever meets the contract of `list` answers and leaves so
 abbrev pub ListSo : ListRow → Type 0
-ListSo r =
-    Listing (r .text) (r .from) (r .lent) (r .answer) (r .records) (r .left) ×
-    ((q : Listed) (new : List ℕ) → Lists (r .text) (r .from) (r .lent) q new
-    → (answerOf q ≡ r .answer) × (recordsIn q ≡ r .records) × (new ≡ r .left))
+ListSo r = RowListing r × ((q : Listed) (new : List ℕ) → Lists (r .text) (r .from) (r .lent) q new → OfRow r q new)
 
 -- no text of the table is too long
 abbrev fits : ListRow → Bool
@@ -183,12 +184,11 @@ all-fit : every fits lists ≡ true
 unfolding lists
 all-fit = refl
 
-list-so : (r : ListRow) → fits r ≡ true → Gives-row r → ListSo r
+list-so : (r : ListRow) → fits r ≡ true → RowListing r → ListSo r
 unfolding Lists
 list-so r f x = (x, so)
   where
-    so : (q : Listed) (new : List ℕ) → Lists (r .text) (r .from) (r .lent) q new
-        → (answerOf q ≡ r .answer) × (recordsIn q ≡ r .records) × (new ≡ r .left)
+    so : (q : Listed) (new : List ℕ) → Lists (r .text) (r .from) (r .lent) q new → OfRow r q new
     so q new (inl (h, x, y, z)) = let l = leb→le (length (r .text)) longestText (subst T (sym f) tt) in absurd (omega arith)
     so q new (inr (h, y)) =
         listing-unique (r .text) (r .from) (r .lent) (answerOf q) (r .answer) (recordsIn q) (r .records) new (r .left) y x

@@ -153,8 +153,9 @@ pub(crate) fn read_record(row: &mut [u8], unread: Unread) -> Record
     if head.from == head.to {
         return Record::Over;
     }
-    let Record::Short(n) = found_in(row, head) else {
-        return found_in(row, head);
+    let found = found_in(row, head);
+    let Record::Short(n) = found else {
+        return found;
     };
     let whole = fill(row, head, n);
     found_in(row, whole)

@@ -1,5 +1,5 @@
-// One text in all modes but `Word`, and walked by a reader too. A list answers otherwise where it has no room for the text's records, so it is made at several
-// lengths.
+// One text in all modes but `Word`, and walked by a reader too. A list answers otherwise where it has no room for the text's records, so
+// it is made at several lengths.
 use crate::MOST;
 use crate::blocks::first;
 use crate::blocks::least;

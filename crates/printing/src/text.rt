@@ -18,7 +18,7 @@ pub fn print_text() {
     if all.failed {
         return;
     }
-    let n = filled(&text, all.to);
+    let n = filled(&text, all.to); // all of it: that it lies in the row is said to the part below
     if LONGEST_TEXT < n {
         let end = put(&mut out, 0, b"TooLong\t0\t0\t0\n");
         flush(&out, end);
