@@ -1,5 +1,6 @@
 pub mod EatLaws
 pub mod GroupLaws
+pub mod MissingDigit
 pub mod AnswerLaws
 pub mod OperatorLaws
 pub mod QuotedLaws

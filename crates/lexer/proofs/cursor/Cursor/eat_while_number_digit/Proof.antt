@@ -12,6 +12,7 @@ use Rattle.grammar.specs.Runs.{sees}
 use Rattle.grammar.proofs.Seen.{moved-one, over-on, seen-in}
 use Rattle.lexer.specs.Eaten.{groups}
 use Rattle.lexer.proofs.GroupLaws.{group-bad, group-more, group-read}
+use Rattle.lexer.proofs.MissingDigit.{never-holds}
 use Rattle.lexer.proofs.cursor.Cursor.eat_while_number_digit.Statement.{statement}
 use Rattle.lexer.proofs.cursor.Cursor.eat_while_number_digit.Tie as tie
 
@@ -55,7 +56,8 @@ returns-2 : tie.Need-returns-2 Inv-loop μ-loop
 returns-2 c =
     let at = c .before .before .before in
     let end = run at .eat-while-digit .ensures in
-    absurd (omega (arith, c .if2 .taken, one-on at, end, over-on _ _ _ _ end))
+    let start = run at .before .loop .start .at in
+    absurd (never-holds (run at .before .before .before .args .text .now) start (rw (← end) (seen at), rw (← end) (c .if2 .taken ∙ at .eat .ensures)))
 
 sees-digit-requires : tie.Need-sees-digit-requires Inv-loop μ-loop
 sees-digit-requires c κs = search needs
