@@ -21,11 +21,8 @@ impl Cursor {
             if !end.sees(text, b'_') {
                 return Digits::Read(end);
             }
+            // no test for a digit before the underscore: the Rust's, made behind it, never holds (proofs/MissingDigit.antt)
             let next = end.eat(text);
-            if start.at == next.at {
-                // before the underscore, there was no digit; as in the Rust, the underscore is eaten already, so this is never so
-                return Digits::Bad(start, next);
-            }
             if !next.sees_digit(text) {
                 // after the underscore, there is no digit
                 return Digits::Bad(start, next);

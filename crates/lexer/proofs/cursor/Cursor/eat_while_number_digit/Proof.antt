@@ -12,7 +12,6 @@ use Rattle.grammar.specs.Runs.{sees}
 use Rattle.grammar.proofs.Seen.{moved-one, over-on, seen-in}
 use Rattle.lexer.specs.Eaten.{groups}
 use Rattle.lexer.proofs.GroupLaws.{group-bad, group-more, group-read}
-use Rattle.lexer.proofs.MissingDigit.{never-holds}
 use Rattle.lexer.proofs.cursor.Cursor.eat_while_number_digit.Statement.{statement}
 use Rattle.lexer.proofs.cursor.Cursor.eat_while_number_digit.Tie as tie
 
@@ -52,35 +51,28 @@ seen c = sym (c .before .before .sees .ensures) ∙ not-false _ (c .before .if1 
 one-on : (c : tie.After-eat Inv-loop μ-loop) → c .eat .result .at ≡ run c .eat-while-digit .result .at + 1
 one-on c = c .eat .ensures ∙ moved-one _ _ _ (seen c)
 
-returns-2 : tie.Need-returns-2 Inv-loop μ-loop
-returns-2 c =
-    let at = c .before .before .before in
-    let end = run at .eat-while-digit .ensures in
-    let start = run at .before .loop .start .at in
-    absurd (never-holds (run at .before .before .before .args .text .now) start (rw (← end) (seen at), rw (← end) (c .if2 .taken ∙ at .eat .ensures)))
-
 sees-digit-requires : tie.Need-sees-digit-requires Inv-loop μ-loop
 sees-digit-requires c κs = search needs
 
-returns-3 : tie.Need-returns-3 Inv-loop μ-loop
-returns-3 c =
-    let at = c .before .before .before .before .before in
+returns-2 : tie.Need-returns-2 Inv-loop μ-loop
+returns-2 c =
+    let at = c .before .before in
     let loop = run at .before .loop in
-    let missed = sym (c .before .sees-digit .ensures) ∙ not-true _ (c .if3 .taken) in
+    let missed = sym (c .before .sees-digit .ensures) ∙ not-true _ (c .if2 .taken) in
     sym (loop .inv ∙ group-bad D _ (loop .start .at) _ (run at .eat-while-digit .ensures) (seen at) _ (one-on at) missed)
 
 loop-less : tie.Need-loop-less Inv-loop μ-loop
 loop-less c =
-    let at = c .before .before .before .before .before in
+    let at = c .before .before in
     let end = run at .eat-while-digit .ensures in
     let text = run at .before .before .before .args .text .now in
     omega (arith, one-on at, end, over-on _ _ _ _ end, seen-in _ text (run at .eat-while-digit .result .at) (seen at))
 
 loop-again : tie.Need-loop-again Inv-loop μ-loop
 loop-again c =
-    let at = c .before .before .before .before .before in
+    let at = c .before .before in
     let loop = run at .before .loop in
-    let more = sym (c .before .sees-digit .ensures) ∙ not-false _ (c .if3 .left) in
+    let more = sym (c .before .sees-digit .ensures) ∙ not-false _ (c .if2 .left) in
     loop .inv ∙ group-more D _ (loop .start .at) _ (run at .eat-while-digit .ensures) (seen at) _ (one-on at) more
 
 pub eat-while-number-digit-spec : {M : Type 1} → statement M
@@ -94,8 +86,7 @@ eat-while-number-digit-spec =
     sees-requires
     returns
     eat-requires
-    returns-2
     sees-digit-requires
-    returns-3
+    returns-2
     loop-less
     loop-again)
