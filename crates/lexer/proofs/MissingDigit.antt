@@ -2,10 +2,10 @@
 -- `_`, of hexadecimal ones before. `never-holds`: of decimal digits it holds on no text and at no offset, so that it is left out here.
 -- `no-text-tells`: with it, whatever it answered, the run would answer the same. `hex-holds`, `hex-tells`: of hexadecimal digits it holds
 -- in `0x_1`, which would be an integer without it. Assumes nothing.
-use Prim.Native.Nat.{ℕ, zero, suc, _+_, _-_, _<_, _≤_}
+use Prim.Native.Nat.{ℕ, zero, suc, _-_, _<_}
 use native.Mathlib.Omega.{arith}
 use mathlib.Core.Path.{_≡_, refl, sym, _∙_}
-use mathlib.Core.Bool.{true, false, cond}
+use mathlib.Core.Bool.{true, cond}
 use mathlib.Core.List.{List}
 use lib.Dec.{eqb}
 use lib.ListN.{drop, length}

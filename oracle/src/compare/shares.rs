@@ -3,8 +3,8 @@
 use super::families::{Family, Plan};
 use super::{cuts, lists, walks, words};
 
-/// About `count` texts. Half are for Next, on which the other calls stand; List and the cut add little code of their own, and
-/// have a fifth each; a tenth is for single words, which the texts of the others are full of too.
+/// About `count` texts. Half, and runs of digits besides, are for Next, on which the other calls stand; List and the cut add
+/// little code of their own, and have a fifth each; a tenth is for single words, which the texts of the others are full of too.
 pub fn all(plan: Plan) -> Vec<Family> {
     let tenths = |n: u64| Plan { count: plan.count / 10 * n, ..plan };
     let mut families = walks::families(tenths(5));

@@ -16,6 +16,7 @@ pub fn families(plan: Plan) -> Vec<Family> {
         random("special bytes", 2 * share, |r, text| (0..=r.below(16)).for_each(|_| text.push(r.byte_of(SPECIAL)))),
         random("lexemes", 3 * share, makers::several_lexemes),
         random("keywords", share, keywords),
+        random("digit runs", 4 * share, digit_runs),
         random("statements", share, statements::any),
         random("damaged", 3 * share, |r, text| {
             makers::good(r, text);
@@ -50,6 +51,12 @@ fn keywords(r: &mut Random, text: &mut Vec<u8>) {
         }
         lexemes::keyword(r, text);
     }
+}
+
+/// Digits in groups, with all that may stand inside a decimal number, so that a run of them ends in every way.
+fn digit_runs(r: &mut Random, text: &mut Vec<u8>) {
+    text.push(r.byte_of(b"0123456789."));
+    (0..=r.below(16)).for_each(|_| text.push(r.byte_of(b"0123456789____..eE+-")));
 }
 
 /// The corpus, parts of it, and damaged parts.
