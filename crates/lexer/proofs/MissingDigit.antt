@@ -1,7 +1,7 @@
 -- For readers: the test of a run of digits for a missing digit before a `_`, which the Rust makes of decimal digits when it has eaten the
 -- `_`, of hexadecimal ones before. `never-holds`: of decimal digits it holds on no text and at no offset, so that it is left out here.
 -- `no-text-tells`: with it, whatever it answered, the run would answer the same. `hex-holds`, `hex-tells`: of hexadecimal digits it holds
--- in `0x_1`, which would be an integer without it. Assumes nothing.
+-- in `0x_1`, whose run is refused there, and would go on to the end without it. Assumes nothing.
 use Prim.Native.Nat.{ℕ, zero, suc, _-_, _<_}
 use native.Mathlib.Omega.{arith}
 use mathlib.Core.Path.{_≡_, refl, sym, _∙_}
@@ -39,42 +39,51 @@ never-holds s start (seen, here) =
     let digits = over D start s in
     omega (arith, here, moved-one (char "_") s digits seen, over-on D s start digits refl)
 
--- The Rust's run of decimal digits, line by line. What its test answers is x, and so is what behind n groups there would be.
-abbrev pub rustRun : ℕ → Digits → List ℕ → ℕ → Digits
-rustRun zero x s start = x
+-- The Rust's run of decimal digits, line by line. Its test, in a group that starts at a place, answers x of that place; n bounds the groups,
+-- and one too many answers so as well.
+abbrev pub rustRun : ℕ → (ℕ → Digits) → List ℕ → ℕ → Digits
+rustRun zero x s start = x start
 rustRun (suc n) x s start =
     let end = over D start s in
     let next = moved end s in
     cond (sees (char "_") (drop end s))
-    (cond (eqb start next) x (cond (sees D (drop next s)) (rustRun n x s next) (Bad (cursor start) (cursor next))))
+    (cond (eqb start next) (x start) (cond (sees D (drop next s)) (rustRun n x s next) (Bad (cursor start) (cursor next))))
     (Read (cursor end))
 
-module _ (x : Digits) (s : List ℕ) where
-  runs : (n start : ℕ) → length s - start < n → rustRun n x s start ≡ groups D start start (drop start s)
-  runs zero start l = absurd (omega (arith, l))
-  runs (suc n) start l =
+module _ (x : ℕ → Digits) (s : List ℕ) where
+  abbrev AsPromised : ℕ → ℕ → Type 0
+  AsPromised n start = rustRun n x s start ≡ groups D start start (drop start s)
+
+  parted : (n start : ℕ) → Parted D s start → AsPromised n (moved (over D start s) s) → AsPromised (suc n) start
+  parted n start seen rest =
       let end = over D start s in
       let next = moved end s in
-      split (sees (char "_") (drop end s))
-      (λ seen.
       let behind = moved-one (char "_") s end seen in
       split (eqb start next)
       (λ here. absurd (never-holds s start (seen, eqb-true start next here)))
       (λ on. split (sees D (drop next s))
-      (λ more. rw (seen, on, more)
-      (runs n next (omega (arith, l, behind, over-on D s start end refl, seen-in (char "_") s end seen))
-      ∙ sym (group-more D s start end refl seen next behind more)))
-      (λ none. rw (seen, on, none) (sym (group-bad D s start end refl seen next behind none)))))
+      (λ more. rw (seen, on, more) (rest ∙ sym (group-more D s start end refl seen next behind more)))
+      (λ none. rw (seen, on, none) (sym (group-bad D s start end refl seen next behind none))))
+
+  runs : (n start : ℕ) → length s - start < n → AsPromised n start
+  runs zero start l = absurd (omega (arith, l))
+  runs (suc n) start l =
+      let end = over D start s in
+      split (sees (char "_") (drop end s))
+      (λ seen. parted n start seen
+      (runs n (moved end s) (omega (arith, l, moved-one (char "_") s end seen, over-on D s start end refl, seen-in (char "_") s end seen))))
       (λ none. rw none (sym (group-read D s start end refl none)))
 
 -- Whatever the test answered, the run answers what `eat_while_number_digit` promises.
-pub no-text-tells : (x : Digits) (s : List ℕ) (start : ℕ) → rustRun (suc (length s)) x s start ≡ groups D start start (drop start s)
+pub no-text-tells : (x : ℕ → Digits) (s : List ℕ) (start : ℕ) → rustRun (suc (length s)) x s start ≡ groups D start start (drop start s)
 no-text-tells x s start = runs x s (suc (length s)) start (omega arith)
 
+-- Behind `0x`, where that number's run begins.
 pub hex-holds : HexTest (bytes "0x_1") 2
 unfolding sees over runLength isHexdigit isDigit
 hex-holds = (refl, refl)
 
+-- The run there as it is promised, and without the test.
 pub hex-tells : (hexGroups 2 (drop 2 (bytes "0x_1")) ≡ Bad (cursor 2) (cursor 2)) × (groups H 2 2 (drop 2 (bytes "0x_1")) ≡ Read (cursor 4))
 unfolding hexGroups groups sees isHexdigit isDigit
 hex-tells = (refl, refl)
