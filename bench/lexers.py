@@ -9,7 +9,10 @@ import subprocess
 from machines import HERE, M4, OUT, ROOT, X86, Missing, compile_c, need, run
 
 KIT = pathlib.Path(run("rt", "doc").strip()).parent.parent / "on" / os.uname().machine / "toolchain/bin"
-ARCHIVE, MODULE = ROOT / "target/staticlib/libcapi.a", OUT / "module.bc"
+# What is measured: the proved archive and its module; or, with bench/run --unproved, the module of a source that nothing proves.
+UNPROVED = "BENCH_UNPROVED" in os.environ
+KEPT = OUT / "unproved" if UNPROVED else OUT
+ARCHIVE, MODULE = ROOT / "target/staticlib/libcapi.a", KEPT / "module.bc"
 X86_TARGET, UNPACKED = "x86_64-unknown-linux-gnu", OUT / "rustc/usr"  # what bench/setup unpacks
 REAL_MEMCHR = pathlib.Path("/usr/share/cargo/registry/memchr-2.5.0/src/lib.rs")
 # bench/setup fetches the source, which is compiled for both machines; Debian's library is x86-64 code.
@@ -19,7 +22,7 @@ M4_TARGET, M4_LAYOUT = "thumbv7em-none-unknown-eabi", "e-m:e-p:32:32-Fi8-i64:64-
 
 def kit_flags(machine):
     """The words that the kit's clang was given for the archive, but for files; for the M4 without those that name the processor."""
-    words = (OUT / "flags").read_text().split("\n")
+    words = (KEPT / "flags").read_text().split("\n")
     words = words[:words.index("-c")] + [word for word in words if word in ("-fPIC", "-O3")]
     if machine is X86:
         return words
@@ -50,7 +53,8 @@ def is_archives(file):
 
 
 def of_list(machine):
-    return [ARCHIVE if machine is X86 else compile_library(M4, OUT / "capi.Cortex-M4.o")]
+    proved = machine is X86 and not UNPROVED
+    return [ARCHIVE if proved else compile_library(machine, OUT / f"capi.{machine.name}.o")]
 
 
 def has_x86(libraries):

@@ -4,7 +4,7 @@ import os
 import shutil
 import sys
 
-from lexers import KIT, SQLITE_SOURCE, compile_library, is_archives
+from lexers import KIT, SQLITE_SOURCE, UNPROVED, compile_library, is_archives
 from machines import M4, OUT, X86, Missing, run
 from space import linked, sizes, stacks
 from speed import growth, instructions, length, profile, same_lists, total
@@ -31,9 +31,12 @@ def versions():
         print(f"the Rust for the Cortex-M4: {source.name}")
     version = SQLITE_SOURCE / "VERSION"
     print("SQLite:", f"source of {version.read_text().strip()}" if version.exists() else "the installed library, if any")
-    if not is_archives(compile_library(X86, OUT / "again.o")):
+    if UNPROVED:
+        print("UNPROVED: what is measured was compiled from its source as it stands; nothing says that it keeps its bounds")
+    elif not is_archives(compile_library(X86, OUT / "again.o")):
         raise SystemExit("bench: FAIL: the kept module, compiled again, is not the object in the archive")
-    print("the kept module, compiled again with the kit's flags, is the archive's object byte for byte")
+    else:
+        print("the kept module, compiled again with the kit's flags, is the archive's object byte for byte")
 
 
 def test(what, value, most):
@@ -44,8 +47,8 @@ def test(what, value, most):
 def main():
     part("Versions", versions)
     part("The lists", same_lists)
-    part("Instructions a byte, x86-64", instructions, X86, ["List", "Rust", "Rust+", "SQLite"])
-    part("Instructions a byte, Cortex-M4", instructions, M4, ["List", "Rust", "SQLite"])
+    part("Instructions a byte, x86-64", instructions, X86, ["List"] if UNPROVED else ["List", "Rust", "Rust+", "SQLite"])
+    part("Instructions a byte, Cortex-M4", instructions, M4, ["List"] if UNPROVED else ["List", "Rust", "SQLite"])
     worst = part("How List grows, x86-64: one text once, twice and four times", growth)
     bounds = [part(f"Stack in bytes, {machine.name}", stacks, machine) for machine in (X86, M4)]
     for machine in X86, M4:
