@@ -9,8 +9,9 @@ from machines import M4, OUT, X86, Missing, run
 from space import linked, sizes, stacks
 from speed import growth, instructions, length, profile, same_lists, total
 
-MOST_STACK = 3584  # bytes
-MOST_INSTRUCTIONS = 110  # a byte
+MOST_STACK = 512  # bytes
+MOST_LOOKUP = 2400  # bytes
+MOST_INSTRUCTIONS = {X86: 50, M4: 60}  # a byte
 MOST_GROWTH = 1  # percent from linear
 
 
@@ -44,6 +45,14 @@ def test(what, value, most):
     return value <= most
 
 
+def test_count(what, machine, most):
+    try:
+        return test(what, round(total(machine, "List", "sync") / length("sync"), 2), most)
+    except Missing as why:
+        print(f"SKIPPED  {what}: {why}")
+        return True
+
+
 def main():
     part("Versions", versions)
     part("The lists", same_lists)
@@ -51,18 +60,18 @@ def main():
     part("Instructions a byte, Cortex-M4", instructions, M4, ["List"] if UNPROVED else ["List", "Rust", "SQLite"])
     worst = part("How List grows, x86-64: one text once, twice and four times", growth)
     bounds = [part(f"Stack in bytes, {machine.name}", stacks, machine) for machine in (X86, M4)]
-    for machine in X86, M4:
-        part(f"Code size in bytes, {machine.name}", sizes, machine)
+    _, lookup = [part(f"Code size in bytes, {machine.name}", sizes, machine) for machine in (X86, M4)]
     part("Code size in bytes, Cortex-M4: what List adds to a program", linked, M4)
     for machine in X86, M4:
         part(f"List by function, text sync, {machine.name}", profile, machine)
     print("\n== Targets")
     good = test("stack bound of a whole call, in bytes, both machines", max(bounds), MOST_STACK)
+    good &= test("the lookup of a word with its tables, in bytes, Cortex-M4", lookup, MOST_LOOKUP)
+    for machine, most in MOST_INSTRUCTIONS.items():
+        good &= test_count(f"List, instructions a byte of the text sync, {machine.name}", machine, most)
     if worst is None:
-        print("SKIPPED  instructions a byte, and growth: nothing was counted")
+        print("SKIPPED  growth: nothing was counted")
     else:
-        a_byte = total(X86, "List", "sync") / length("sync")
-        good &= test("List, instructions a byte of the text sync, x86-64", round(a_byte, 2), MOST_INSTRUCTIONS)
         good &= test("growth of List, percent from linear, x86-64", round(worst, 4), MOST_GROWTH)
     return 0 if good else 1
 

@@ -7,6 +7,7 @@ from machines import OUT, Missing, output_of
 from speed import KINDS_OF_TEXT, present, text
 
 ENTRIES = "sqllex_next", "sqllex_list", "sqllex_list_from", "sqllex_cut"
+LOOKUP = "words::lookup::", "keywords::"  # the functions that look a word up
 
 
 @functools.cache
@@ -44,15 +45,18 @@ def stacks(machine):
 
 
 def sizes(machine):
+    """Prints the library's parts, and gives the size of the lookup of a word with all constants, which on the M4 are its tables alone."""
     found, size = functions(machine), graph.sections(compile_library(machine, OUT / f"capi.{machine.name}.o"))
     constants = sum(n for name, n in size.items() if name.startswith(".rodata"))
     code = lambda names: sum(size[".text." + name] for name in names)
+    lookup = code(name for name in found if name.startswith(LOOKUP)) + constants
     print(f"{'the library':42}{code(found) + constants:7,}")
     for entry in ENTRIES:
         print(f"{'what a program with ' + entry + ' has':42}{code(graph.reached(found, entry)) + constants:7,}")
     for name in found:
         print(f"    {name:38}{code([name]):7,}")
     print(f"    {'constants':38}{constants:7,}")
+    return lookup
 
 
 def linked(machine):

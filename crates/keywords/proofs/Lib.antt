@@ -1,7 +1,11 @@
 pub mod Logic
 pub mod KindLaws
 pub mod SameLaws
+pub mod FillLaws
 pub mod RowLaws
 pub mod WordLaws
 pub mod Theorems
-pub mod FillLaws
+pub mod PackLaws
+pub mod StoredLaws
+pub mod Tables
+pub mod PlaceLaws

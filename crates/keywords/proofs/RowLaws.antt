@@ -1,92 +1,19 @@
--- The walk over the stored rows: they hold the words of n bytes side by side, and what is left of those decides the kind.
--- Assumes nothing.
-use Prim.Native.Nat.{ℕ, zero, suc, _+_, _-_, _≤_, _<_}
-use native.Mathlib.Nat.{not-suc-le-zero, le-of-suc-le-suc, zero-add}
-use native.Mathlib.Numerals.{add-one}
+-- Which words can be a row's: those of at most 17 bytes, and those with its first byte, a letter from A to Z. Assumes nothing.
+use Prim.Native.Nat.{ℕ, zero, suc, _≤_, _<_}
 use native.Mathlib.Omega.{arith}
 use mathlib.Core.Path.{_≡_, refl, sym, _∙_, ap}
-use mathlib.Core.Bool.{Bool, true, false}
-use mathlib.Core.List.{List, [], _∷_, _++_, map, map-append, append-assoc, append-nil}
-use lib.Dec.{ltb}
-use lib.ListN.{length, getD, take, drop, length-append, length-map}
-use lib.Seq.{drop-cons, take-at, drop-at}
-use borrow.Author.Tests.{ltb-true, ltb-false, ne-eqb}
+use mathlib.Core.Bool.{Bool, true, false, _&&_}
+use mathlib.Core.List.{List, [], _∷_, map}
+use lib.Dec.{eqb, leb}
+use lib.ListN.{length, getD}
+use borrow.Author.Tests.{leb-true, lt-leb, eqb-true, eqb-false, ne-eqb}
 use Rattle.keywords.specs.Kinds.{kind}
 use Rattle.keywords.specs.Words.{Entry, wordList, same, kindIn}
-use Rattle.keywords.specs.Rows.{rowEntry, ofLength, below, stored, firstOf, kindOfRow}
-use Rattle.keywords.proofs.Logic.{split, and-left, and-right, every}
+use Rattle.keywords.specs.Rows.{rowOf, rowEntry, ofLength, kindOfRow}
+use Rattle.keywords.specs.Stored.{beginning}
+use Rattle.keywords.proofs.Logic.{split, and-left, and-right, and-false, every}
 use Rattle.keywords.proofs.KindLaws.{keyword, all-keywords, short}
-
--- below its end a mapped list is read through the map; the defaults do not matter
-pub getD-map : {A B : Type 0} (f : A → B) (l : List A) (k : ℕ) (d : A) (z : B) → k < length l → getD (map f l) k z ≡ f (getD l k d)
-getD-map f [] k d z h = absurd (not-suc-le-zero h)
-getD-map f (x ∷ l) zero d z h = refl
-getD-map f (x ∷ l) (suc k) d z h = getD-map f l k d z (le-of-suc-le-suc h)
-
--- the words of n bytes stand behind the shorter ones
-Behind : ℕ → ℕ → List Entry → Type 0
-Behind m n es = (r : List Entry) × (below m es ≡ below n es ++ (ofLength n es ++ r))
-
-behind : (m n : ℕ) (es : List Entry) → n < m → Behind m n es
-unfolding Behind
-behind zero n es h = absurd (not-suc-le-zero h)
-behind (suc m) n es h =
-    split (ltb n m)
-    (λ e. let b = behind m n es (ltb-true n m e) in (b .0 ++ ofLength m es, rw (b .1) (simp append-assoc)))
-    (λ e. let q : n ≡ m = omega (arith, ltb-false n m e) in ([], rw (q, append-nil)))
-
-window : (f : Entry → Entry) (a b r : List Entry) → take (length (a ++ b) - length a) (drop (length a) (map f (a ++ (b ++ r)))) ≡ map f b
-window f a b r =
-    let n : length (map f b) ≡ length (a ++ b) - length a = length-map b f ∙ omega (arith, length-append a b) in
-    rw (map-append, map-append, drop-at (map f a) (map f b ++ map f r) (length a) (length-map a f)) (take-at (map f b) (map f r) _ n)
-
--- the rows from k to before `end` decide the kind
-unfoldable pub Left : ℕ → List ℕ → ℕ → ℕ → Type 0
-Left n r k end = kindOfRow n r ≡ kindIn (take (end - k) (drop k stored)) r
-
-pub left-all : (n : ℕ) (r : List ℕ) → n ≤ 17 → Left n r (firstOf n) (firstOf (n + 1))
-unfolding Left kindOfRow firstOf stored Behind
-left-all n r h =
-    let b = behind 18 n wordList (omega arith) in
-    rw (add-one n, b .1) (ap (λ es. kindIn es r) (sym (window rowEntry (below n wordList) (ofLength n wordList) (b .0))))
-
-below-count : length (below 18 wordList) ≡ 151
-unfolding wordList
-below-count = refl
-
-stored-count : length stored ≡ 151
-unfolding stored
-stored-count = length-map (below 18 wordList) rowEntry ∙ below-count
-
-abbrev none : Entry
-none = record { word = []; kind = 0 }
-
--- at row k of the table t, where b says whether it is the one
-module _ (n : ℕ) (r : List ℕ) (t : List (List ℕ)) (et : t ≡ map (λ e. e .word) stored) (k end : ℕ) (h : k < end) (m : end ≤ 151) (b : Bool) (eb : b ≡ same r (getD t k [])) where
-  inside : k < length stored
-  inside = omega (arith, stored-count)
-
-  at-row : b ≡ same r (getD stored k none .word)
-  at-row = eb ∙ ap (λ l. same r (getD l k [])) et ∙ ap (same r) (getD-map (λ e. e .word) stored k none [] inside)
-
-  here : take (end - k) (drop k stored) ≡ getD stored k none ∷ take (end - (k + 1)) (drop (k + 1) stored)
-  here =
-      let q : end - k ≡ suc (end - (k + 1)) = omega arith in
-      rw (q, drop-cons stored k none inside, add-one k)
-
-  pub left-more : b ≡ false → Left n r k end → Left n r (k + 1) end
-  unfolding Left
-  left-more f l = l ∙ rw (here, ← at-row, f)
-
-  pub left-found : b ≡ true → Left n r k end → kindOfRow n r ≡ getD (map (λ e. e .kind) stored) k 0
-  unfolding Left
-  left-found f l = l ∙ rw (here, ← at-row, f) (sym (getD-map (λ e. e .kind) stored k none 0 inside))
-
-pub left-none : (n : ℕ) (r : List ℕ) (k end : ℕ) → end ≤ k → Left n r k end → kindOfRow n r ≡ kind "TK_ID"
-unfolding Left
-left-none n r k end h l =
-    let q : end - k ≡ 0 = omega arith in
-    l ∙ rw q
+use Rattle.keywords.proofs.SameLaws.{same-true}
 
 -- no word is longer than its row
 pub longer : (n : ℕ) (es : List Entry) → every keyword es ≡ true → 17 < n → ofLength n es ≡ []
@@ -99,32 +26,57 @@ pub left-out : (n : ℕ) (r : List ℕ) → 17 < n → kindOfRow n r ≡ kind "T
 unfolding kindOfRow
 left-out n r h = rw (longer n wordList all-keywords h)
 
--- the numbers from 0 on
-abbrev upFrom : ℕ → ℕ → List ℕ
-upFrom i zero = []
-upFrom i (suc n) = i ∷ upFrom (suc i) n
+-- every word begins with a letter from A to Z: one test, which antt computes
+abbrev letter : ℕ → Bool
+letter b = leb 65 b && leb b 90
 
-upFrom-at : (n i k : ℕ) → k < n → getD (upFrom i n) k 0 ≡ i + k
-upFrom-at zero i k h = absurd (not-suc-le-zero h)
-upFrom-at (suc n) i zero h = omega arith
-upFrom-at (suc n) i (suc k) h = upFrom-at n (suc i) k (le-of-suc-le-suc h) ∙ omega arith
+abbrev lettered : Entry → Bool
+lettered e = letter (getD (e .word) 0 0)
 
--- the code's table of first rows, against their definition: one test, which antt computes
-abbrev pub firsts : List ℕ
-firsts = 0 ∷ 0 ∷ 0 ∷ 11 ∷ 21 ∷ 47 ∷ 70 ∷ 100 ∷ 121 ∷ 128 ∷ 141 ∷ 145 ∷ 146 ∷ 149 ∷ 150 ∷ 150 ∷ 150 ∷ 150 ∷ 151 ∷ []
+all-lettered : every lettered wordList ≡ true
+unfolding wordList
+all-lettered = refl
 
-firsts-right : firsts ≡ map firstOf (upFrom 0 19)
-unfolding firstOf wordList
-firsts-right = refl
+-- a word with another first byte is not the row's
+other : (r w : List ℕ) → letter (getD w 0 0) ≡ true → eqb (getD w 0 0) (getD r 0 0) ≡ false → same r (rowOf 17 w) ≡ false
+other r [] t f = absurd (omega (arith, leb-true 65 0 t))
+other r (b ∷ w) t f =
+    split (same r (rowOf 17 (b ∷ w)))
+    (λ s. absurd (eqb-false b (getD r 0 0) f (sym (ap (λ l. getD l 0 0) (same-true r (rowOf 17 (b ∷ w)) s)))))
+    (λ g. g)
 
-pub first-at : (n : ℕ) → n ≤ 18 → getD firsts n 0 ≡ firstOf n
-first-at n h =
-    ap (λ l. getD l n 0) firsts-right ∙ getD-map firstOf (upFrom 0 19) n 0 0 (omega arith) ∙ ap firstOf (upFrom-at 19 0 n (omega arith) ∙ zero-add n)
+-- only words with the row's first byte decide
+by-first : (n : ℕ) (es : List Entry) (r : List ℕ) → every lettered es ≡ true → kindIn (map rowEntry (ofLength n es)) r ≡ kindIn (map rowEntry (beginning (getD r 0 0) (ofLength n es))) r
+by-first n [] r t = refl
+by-first n (e ∷ es) r t =
+    let more = by-first n es r (and-right (lettered e) (every lettered es) t) in
+    split (eqb (length (e .word)) n)
+    (λ l. split (eqb (getD (e .word) 0 0) (getD r 0 0))
+    (λ q. rw (l, q, more))
+    (λ q. rw (l, q, other r (e .word) (and-left (lettered e) (every lettered es) t) q) more))
+    (λ l. rw l more)
 
--- every first row lies in the table
-pub first-small : (n : ℕ) → n ≤ 18 → firstOf n ≤ 151
-unfolding firstOf Behind
-first-small n h =
-    split (ltb n 18)
-    (λ e. let b = behind 18 n wordList (ltb-true n 18 e) in omega (arith, below-count, ap length (b .1) ∙ length-append (below n wordList) (ofLength n wordList ++ b .0)))
-    (λ e. let q : n ≡ 18 = omega (arith, ltb-false n 18 e) in rw q (omega (arith, below-count)))
+pub first-decides : (n : ℕ) (r : List ℕ) → kindOfRow n r ≡ kindIn (map rowEntry (beginning (getD r 0 0) (ofLength n wordList))) r
+unfolding kindOfRow
+first-decides n r = by-first n wordList r all-lettered
+
+none-begins : (b n : ℕ) (es : List Entry) → every lettered es ≡ true → letter b ≡ false → beginning b (ofLength n es) ≡ []
+none-begins b n [] t f = refl
+none-begins b n (e ∷ es) t f =
+    let more = none-begins b n es (and-right (lettered e) (every lettered es) t) f in
+    let l = and-left (lettered e) (every lettered es) t in
+    split (eqb (length (e .word)) n)
+    (λ q. split (eqb (getD (e .word) 0 0) b)
+    (λ s. let z : true ≡ false = sym l ∙ ap letter (eqb-true (getD (e .word) 0 0) b s) ∙ f in cc)
+    (λ s. rw (q, s) more))
+    (λ q. rw q more)
+
+-- a row that begins with no such letter is no word's
+no-letter : (n : ℕ) (r : List ℕ) → letter (getD r 0 0) ≡ false → kindOfRow n r ≡ kind "TK_ID"
+no-letter n r f = first-decides n r ∙ rw (none-begins (getD r 0 0) n wordList all-lettered f)
+
+pub below-letters : (n : ℕ) (r : List ℕ) → getD r 0 0 < 65 → kindOfRow n r ≡ kind "TK_ID"
+below-letters n r h = no-letter n r (rw (lt-leb 65 (getD r 0 0) h))
+
+pub above-letters : (n : ℕ) (r : List ℕ) → 90 < getD r 0 0 → kindOfRow n r ≡ kind "TK_ID"
+above-letters n r h = no-letter n r (rw (lt-leb (getD r 0 0) 90 h) (and-false (leb 65 (getD r 0 0))))

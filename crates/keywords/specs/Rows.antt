@@ -1,9 +1,9 @@
--- How the code stores the word list: a row of 17 bytes for each word, the shortest words first, and the kinds in the same order.
--- Only the contracts of this crate speak of it; a word's kind is defined without it. Assumes nothing.
+-- What looking a word up by its row is: a row of 17 bytes holds a folded word, with dots behind it. The contract of `kind_of_row` speaks
+-- of it; a word's kind is defined without it. Assumes nothing.
 use Prim.Native.Nat.{ℕ, zero, suc}
 use Prim.Native.Char.{code}
 use mathlib.Core.Bool.{cond}
-use mathlib.Core.List.{List, [], _∷_, _++_, map}
+use mathlib.Core.List.{List, [], _∷_, map}
 use lib.Dec.{eqb}
 use lib.ListN.{length}
 use Rattle.keywords.specs.Words.{Entry, wordList, kindIn}
@@ -21,19 +21,6 @@ rowEntry e = record { word = rowOf 17 (e .word); kind = e .kind }
 abbrev pub ofLength : ℕ → List Entry → List Entry
 ofLength n [] = []
 ofLength n (e ∷ es) = cond (eqb (length (e .word)) n) (e ∷ ofLength n es) (ofLength n es)
-
--- the entries whose words have fewer than n bytes, the shortest first
-abbrev pub below : ℕ → List Entry → List Entry
-below zero es = []
-below (suc n) es = below n es ++ ofLength n es
-
--- every entry with its row in the place of its word, as the code stores them
-unfoldable pub stored : List Entry
-stored = map rowEntry (below 18 wordList)
-
--- where the words of n bytes begin in it
-unfoldable pub firstOf : ℕ → ℕ
-firstOf n = length (below n wordList)
 
 -- the kind of the first word of n bytes whose row is r, else TK_ID
 unfoldable pub kindOfRow : ℕ → List ℕ → ℕ

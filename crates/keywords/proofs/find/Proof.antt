@@ -1,53 +1,94 @@
--- `keywords::find` meets its contract. The loop's invariant: the rows from k to before `end` decide the kind. Assumes nothing.
-use Prim.Native.Nat.{_+_, _≤_, _-_}
+-- `keywords::find` meets its contract. The loop's invariant: the words of the group from k on decide the kind. Assumes nothing.
+use Prim.Native.Nat.{ℕ, _+_, _*_, _-_, _/_, _≤_, _<_}
 use native.Mathlib.Omega.{arith}
-use mathlib.Core.Path.{sym, _∙_}
+use mathlib.Core.Bool.{Bool}
+use mathlib.Core.Path.{_≡_, refl, sym, _∙_, ap}
+use lib.ListN.{length}
 use borrow.Author.Needs.{needs}
-use Rattle.keywords.proofs.RowLaws.{Left, left-all, left-more, left-found, left-none, first-small}
+use Rattle.keywords.specs.Words.{same}
+use Rattle.keywords.specs.Rows.{rowOf}
+use Rattle.keywords.specs.Stored.{stored, startOf}
+use Rattle.keywords.proofs.StoredLaws.{Left, wordAt, word-length, start-small, left-all, left-more, left-found, left-none}
+use Rattle.keywords.proofs.PlaceLaws.{Place, place, stored-length}
 use Rattle.keywords.proofs.find.Statement.{statement}
 use Rattle.keywords.proofs.find.Tie as tie
 
 abbrev Inv-loop : tie.InvT-loop
-Inv-loop rows row n k₀ end k = (end ≤ 151) × Left n row k end
+Inv-loop row n a x k₀ end k = (end ≡ startOf (28 * n + a + 1)) × (startOf (28 * n + a) ≤ k) × Left (28 * n + a) row k end
 
 abbrev μ-loop : tie.MeasureT-loop
-μ-loop rows row n k₀ end k = end - k
+μ-loop row n a x k₀ end k = end - k
 
-first-row-requires : tie.Need-first-row-requires Inv-loop μ-loop
-first-row-requires c κs = search needs
+-- at word k of the group: where it stands, and that the code compares with its row
+module _ (t : tie.In-loop Inv-loop μ-loop) where
+  abbrev entry : tie.Start Inv-loop μ-loop
+  entry = t .before .before .before .before
 
-add-first-row : tie.Need-add-first-row Inv-loop μ-loop
-add-first-row c = search needs
+  abbrev x : ℕ
+  x = 28 * entry .args .n + entry .args .a
 
-first-row-requires-2 : tie.Need-first-row-requires-2 Inv-loop μ-loop
-first-row-requires-2 c κs = search needs
+  abbrev k : ℕ
+  k = t .before .loop .k
+
+  ends : t .before .before .start-of2 .result ≤ length stored
+  ends = rw (t .before .loop .inv .0) (start-small x (omega arith))
+
+  inside : k < 151
+  inside = omega (arith, ends, stored-length)
+
+  here : Place (entry .args .n) k
+  here =
+      let l = word-length x k (omega arith) (t .before .loop .inv .1) (omega arith) in
+      let n : x / 28 ≡ entry .args .n = omega arith in
+      place (entry .args .n) k inside (l ∙ n)
+
+compares : (q : tie.After-same-row Inv-loop μ-loop) → q .same-row .result ≡ same (entry (q .before .before) .args .row .now) (rowOf 17 (wordAt (k (q .before .before))))
+compares q = q .same-row .ensures ∙ rw (q .before .skip .ensures, here (q .before .before) .word)
+
+mul-x : tie.Need-mul-x Inv-loop μ-loop
+mul-x c = search needs
+
+add-x : tie.Need-add-x Inv-loop μ-loop
+add-x c = search needs
+
+start-of-requires : tie.Need-start-of-requires Inv-loop μ-loop
+start-of-requires c κs = search needs
+
+add-start-of : tie.Need-add-start-of Inv-loop μ-loop
+add-start-of c = search needs
+
+start-of-requires-2 : tie.Need-start-of-requires-2 Inv-loop μ-loop
+start-of-requires-2 c κs = search needs
 
 loop-holds : tie.Need-loop-holds Inv-loop μ-loop
 loop-holds c =
     let a = c .before .before .args in
-    let p : a .n ≤ 17 = c .before .before .pre .1 in
-    rw (c .before .first-row .ensures, c .first-row2 .ensures) (first-small (a .n + 1) (omega arith), left-all (a .n) (a .row) p)
+    (c .start-of2 .ensures, omega (arith, c .before .start-of .ensures), rw (c .before .start-of .ensures, c .start-of2 .ensures) (left-all (28 * a .n + a .a) (a .row .now) (omega arith)))
 
 mul-same-row : tie.Need-mul-same-row Inv-loop μ-loop
-mul-same-row c = search needs
+mul-same-row c = record { fits = omega (arith, here c .small) }
 
-element-copy-out-same-row : tie.Need-element-copy-out-same-row Inv-loop μ-loop
-element-copy-out-same-row c = search needs
+skip-requires : tie.Need-skip-requires Inv-loop μ-loop
+skip-requires c κs = omega (arith, entry c .pre .0)
+
+sub-same-row : tie.Need-sub-same-row Inv-loop μ-loop
+sub-same-row c = rw (c .skip .ensures) (here (c .before) .past)
 
 same-row-requires : tie.Need-same-row-requires Inv-loop μ-loop
-same-row-requires c κs = search needs
+same-row-requires c κs =
+    let s = entry (c .before) in
+    (s .pre .0, (rw (c .skip .ensures) (here (c .before) .inside), s .pre .1 .1))
 
 kind-at-requires : tie.Need-kind-at-requires Inv-loop μ-loop
-kind-at-requires c κs = search needs
+kind-at-requires c κs = inside (c .before .before .before)
 
 returns : tie.Need-returns Inv-loop μ-loop
 returns c =
-    let s = c .before .before in
-    let t = s .before .before in
-    let l = t .before .loop in
-    let f = t .before .before .before .before in
-    c .kind-at .ensures
-    ∙ sym (left-found (f .args .n) (f .args .row) _ (f .pre .0) (l .k) _ (t .loop-test .taken) (l .inv .0) _ (s .same-row .ensures) (c .before .if1 .taken) (l .inv .1))
+    let q = c .before .before in
+    let t = q .before .before in
+    let s = entry t in
+    let f = left-found (x t) (s .args .row .now) (k t) _ (t .loop-test .taken) (ends t) _ (compares q) (c .before .if1 .taken) (t .before .loop .inv .2) in
+    c .kind-at .ensures ∙ sym f
 
 add-k : tie.Need-add-k Inv-loop μ-loop
 add-k c = search needs
@@ -57,17 +98,16 @@ loop-less c = search needs
 
 loop-again : tie.Need-loop-again Inv-loop μ-loop
 loop-again c =
-    let s = c .before in
-    let t = s .before .before in
-    let l = t .before .loop in
-    let f = t .before .before .before .before in
-    (l .inv .0, left-more (f .args .n) (f .args .row) _ (f .pre .0) (l .k) _ (t .loop-test .taken) (l .inv .0) _ (s .same-row .ensures) (c .if1 .left) (l .inv .1))
+    let q = c .before in
+    let t = q .before .before in
+    let s = entry t in
+    let m = left-more (x t) (s .args .row .now) (k t) _ (t .loop-test .taken) (ends t) _ (compares q) (c .if1 .left) (t .before .loop .inv .2) in
+    (t .before .loop .inv .0, omega (arith, t .before .loop .inv .1), m)
 
 returns-2 : tie.Need-returns-2 Inv-loop μ-loop
 returns-2 c =
-    let l = c .before .loop in
-    let a = c .before .before .before .before .args in
-    sym (left-none (a .n) (a .row) (l .k) _ (c .loop-test .left) (l .inv .1))
+    let s = c .before .before .before .before in
+    sym (left-none (28 * s .args .n + s .args .a) (s .args .row .now) (c .before .loop .k) _ (c .loop-test .left) (c .before .loop .inv .2))
 
 pub find-spec : {M : Type 1} → statement M
 find-spec =
@@ -75,12 +115,15 @@ find-spec =
     (tie.spec
     Inv-loop
     μ-loop
-    first-row-requires
-    add-first-row
-    first-row-requires-2
+    mul-x
+    add-x
+    start-of-requires
+    add-start-of
+    start-of-requires-2
     loop-holds
     mul-same-row
-    element-copy-out-same-row
+    skip-requires
+    sub-same-row
     same-row-requires
     kind-at-requires
     returns

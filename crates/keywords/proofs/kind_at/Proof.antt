@@ -1,19 +1,20 @@
--- `keywords::kind_at` meets its contract: antt computes the kinds of the stored list and finds those of the code. Assumes nothing.
+-- `keywords::kind_at` meets its contract: the byte that is taken out of its table's number. Assumes nothing.
+use native.Mathlib.Omega.{arith}
 use borrow.Author.Needs.{needs}
-use Rattle.keywords.specs.Words.{wordList}
-use Rattle.keywords.specs.Rows.{stored}
+use Rattle.keywords.specs.Stored.{kindAt}
+use Rattle.keywords.proofs.PackLaws.{taken}
+use Rattle.keywords.proofs.PlaceLaws.{kind-byte}
 use Rattle.keywords.proofs.kind_at.Statement.{statement}
 use Rattle.keywords.proofs.kind_at.Tie as tie
 
-array-read-wide : tie.Need-array-read-wide
-array-read-wide c = search needs
+four-kinds-requires : tie.Need-four-kinds-requires
+four-kinds-requires c κs = search needs
 
-wide-requires : tie.Need-wide-requires
-wide-requires c κs = search needs
+byte-of-requires : tie.Need-byte-of-requires
+byte-of-requires c κs = search needs
 
 returns : tie.Need-returns
-unfolding stored wordList
-returns c = c .wide .ensures
+returns c = taken kindAt (c .before .before .args .k) _ _ (λ j h. kind-byte j) (c .before .four-kinds .ensures) (c .byte-of .ensures)
 
 pub kind-at-spec : {M : Type 1} → statement M
-kind-at-spec = tie.close (tie.spec array-read-wide wide-requires returns)
+kind-at-spec = tie.close (tie.spec four-kinds-requires byte-of-requires returns)
