@@ -15,6 +15,7 @@ const NEAR: &[u8] = b"AEINORSTZ@[_`{aeinorstz\x7f\xc1\xd3\xe1\x1f09$ ";
 
 pub fn families(plan: Plan) -> Vec<Family> {
     let share = plan.count / 8;
+    let letters: usize = KEYWORDS.iter().map(Vec::len).sum();
     vec![
         family("keywords", share / 4, mixed),
         family("near misses", 4 * share, near_miss),
@@ -24,6 +25,7 @@ pub fn families(plan: Plan) -> Vec<Family> {
         Family::new("word: longest", WORD, 24, makers::longest),
         Family::every("word: letters", WORD, LETTERS, share, plan.seed, false),
         Family::every("word: bytes", WORD, ALL_BYTES, share, plan.seed, false),
+        Family::new("word: one byte off", WORD, 256 * letters as u64, one_byte_off),
     ]
 }
 
@@ -37,7 +39,26 @@ fn family<'a>(name: &str, count: u64, make: impl Fn(&mut Random, &mut Vec<u8>) +
 /// A word of the list, each letter large or small.
 fn mixed(r: &mut Random, word: &mut Vec<u8>) {
     word.extend(&KEYWORDS[r.below(KEYWORDS.len())]);
+    some_small(r, word);
+}
+
+fn some_small(r: &mut Random, word: &mut [u8]) {
     word.iter_mut().filter(|_| r.once_in(2)).for_each(|b| b.make_ascii_lowercase());
+}
+
+/// Every word of the list with every one of its bytes made every byte, one at a time, each letter large or small.
+fn one_byte_off(index: u64, r: &mut Random, word: &mut Vec<u8>) -> usize {
+    let mut place = (index / 256) as usize;
+    for whole in KEYWORDS.iter() {
+        if place < whole.len() {
+            word.extend(whole);
+            break;
+        }
+        place -= whole.len();
+    }
+    some_small(r, word);
+    word[place] = (index % 256) as u8;
+    0
 }
 
 /// A word of the list with one or two bytes changed, dropped, added or swapped.
