@@ -6,23 +6,37 @@ use native.Mathlib.Omega.{arith}
 use mathlib.Core.Path.{_≡_, sym, _∙_, ap}
 use Rattle.keywords.specs.Stored.{quad}
 
--- byte r of the c-th four, where all four are bytes
-out : (f : ℕ → ℕ) (c : ℕ) → f (4 * c) < 256 → f (4 * c + 1) < 256 → f (4 * c + 2) < 256 → f (4 * c + 3) < 256 → (r : ℕ) → r < 4 → quad f c / 2 ^ (8 * r) % 256 ≡ f (4 * c + r)
-unfolding quad
-out f c a b d e zero h = rw (add-zero (4 * c)) (omega arith)
-out f c a b d e (suc zero) h = omega arith
-out f c a b d e (suc (suc zero)) h = omega arith
-out f c a b d e (suc (suc (suc zero))) h = omega arith
-out f c a b d e (suc (suc (suc (suc r)))) h = absurd (omega arith)
+-- the c-th four and those before it are bytes
+abbrev Bytes : (ℕ → ℕ) → ℕ → Type 0
+Bytes f c = (j : ℕ) → j < 4 * c + 4 → f j < 256
+
+-- byte r of the c-th four
+module _ (f : ℕ → ℕ) (c : ℕ) (bytes : Bytes f c) where
+  b0 : f (4 * c) < 256
+  b0 = bytes (4 * c) (omega arith)
+
+  b1 : f (4 * c + 1) < 256
+  b1 = bytes (4 * c + 1) (omega arith)
+
+  b2 : f (4 * c + 2) < 256
+  b2 = bytes (4 * c + 2) (omega arith)
+
+  b3 : f (4 * c + 3) < 256
+  b3 = bytes (4 * c + 3) (omega arith)
+
+  out : (r : ℕ) → r < 4 → quad f c / 2 ^ (8 * r) % 256 ≡ f (4 * c + r)
+  unfolding quad
+  out zero h = rw (add-zero (4 * c)) (omega (arith, b0, b1, b2, b3))
+  out (suc zero) h = omega (arith, b0, b1, b2, b3)
+  out (suc (suc zero)) h = omega (arith, b0, b1, b2, b3)
+  out (suc (suc (suc zero))) h = omega (arith, b0, b1, b2, b3)
+  out (suc (suc (suc (suc r)))) h = absurd (omega arith)
 
 -- what the code takes out of the number that its table gives is the list's
-pub taken : (f : ℕ → ℕ) (i four r : ℕ) → ((j : ℕ) → j < 4 * (i / 4) + 4 → f j < 256) → four ≡ quad f (i / 4) → r ≡ four / 2 ^ (8 * (i % 4)) % 256 → r ≡ f i
-taken f i four r small p q =
-    let c = 4 * (i / 4) in
-    let whole : c + i % 4 ≡ i = omega arith in
-    q
-    ∙ rw p (out f (i / 4) (small c (omega arith)) (small (c + 1) (omega arith)) (small (c + 2) (omega arith)) (small (c + 3) (omega arith)) (i % 4) (omega arith))
-    ∙ ap f whole
+pub taken : (f : ℕ → ℕ) (i four r : ℕ) → Bytes f (i / 4) → four ≡ quad f (i / 4) → r ≡ four / 2 ^ (8 * (i % 4)) % 256 → r ≡ f i
+taken f i four r bytes p q =
+    let whole : 4 * (i / 4) + i % 4 ≡ i = omega arith in
+    q ∙ rw p (out f (i / 4) bytes (i % 4) (omega arith)) ∙ ap f whole
 
 -- functions that agree on the first 4 n numbers are packed alike
 module _ (f g : ℕ → ℕ) (n : ℕ) (alike : (j : ℕ) → j < 4 * n → g j ≡ f j) where

@@ -77,7 +77,11 @@ joined-split [] k h = absurd (not-suc-le-zero h)
 joined-split (e ∷ es) zero h = refl
 joined-split (e ∷ es) (suc k) h = ap (λ l. e .word ++ l) (joined-split es k (le-of-suc-le-suc h)) ∙ sym (append-assoc (e .word) _ _)
 
-placed-at : (es : List Entry) (k p j : ℕ) → placed k p es ≡ true → j < length es → (let n = length (getD es j none .word) in n * (k + j) ≡ getD skips n 0 + (p + length (joined (take j es))))
+-- where word k + j stands, the j-th of the words from word k on, which begin at byte p
+abbrev At : List Entry → ℕ → ℕ → ℕ → Type 0
+At es k p j = let n = length (getD es j none .word) in n * (k + j) ≡ getD skips n 0 + (p + length (joined (take j es)))
+
+placed-at : (es : List Entry) (k p j : ℕ) → placed k p es ≡ true → j < length es → At es k p j
 unfolding placed
 placed-at [] k p j t h = absurd (not-suc-le-zero h)
 placed-at (e ∷ es) k p zero t h = rw (add-zero k, add-zero p) (eqb-true _ _ (and-left _ _ t))
@@ -101,9 +105,11 @@ place n k h e =
     let front = joined (take k stored) in
     let back = joined (drop (suc k) stored) in
     let s = joined-split stored k l in
-    let p : n * k ≡ getD skips n 0 + length front = rw (← e) (rw (zero-add k, zero-add (length front)) at (placed-at stored 0 0 k (rule .places) l)) in
+    let t = rw (zero-add k, zero-add (length front)) at (placed-at stored 0 0 k (rule .places) l) in
+    let p : n * k ≡ getD skips n 0 + length front = rw (← e) t in
     let q : n * k - getD skips n 0 ≡ length front = omega arith in
-    let f : 888 ≡ length front + (n + length back) = sym store-length ∙ ap length s ∙ length-append front (wordAt k ++ back) ∙ omega (arith, length-append (wordAt k) back) in
+    let all = sym store-length ∙ ap length s ∙ length-append front (wordAt k ++ back) in
+    let f : 888 ≡ length front + (n + length back) = omega (arith, all, length-append (wordAt k) back) in
     record {
       small = omega (arith, bounded 2048 skips (omega arith) refl n);
       past = omega arith;

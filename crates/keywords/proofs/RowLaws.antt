@@ -1,5 +1,5 @@
 -- Which words can be a row's: those of at most 17 bytes, and those with its first byte, a letter from A to Z. Assumes nothing.
-use Prim.Native.Nat.{ℕ, zero, suc, _≤_, _<_}
+use Prim.Native.Nat.{ℕ, _<_}
 use native.Mathlib.Omega.{arith}
 use mathlib.Core.Path.{_≡_, refl, sym, _∙_, ap}
 use mathlib.Core.Bool.{Bool, true, false, _&&_}
@@ -46,7 +46,10 @@ other r (b ∷ w) t f =
     (λ g. g)
 
 -- only words with the row's first byte decide
-by-first : (n : ℕ) (es : List Entry) (r : List ℕ) → every lettered es ≡ true → kindIn (map rowEntry (ofLength n es)) r ≡ kindIn (map rowEntry (beginning (getD r 0 0) (ofLength n es))) r
+abbrev ByFirst : ℕ → List Entry → List ℕ → Type 0
+ByFirst n es r = kindIn (map rowEntry (ofLength n es)) r ≡ kindIn (map rowEntry (beginning (getD r 0 0) (ofLength n es))) r
+
+by-first : (n : ℕ) (es : List Entry) (r : List ℕ) → every lettered es ≡ true → ByFirst n es r
 by-first n [] r t = refl
 by-first n (e ∷ es) r t =
     let more = by-first n es r (and-right (lettered e) (every lettered es) t) in

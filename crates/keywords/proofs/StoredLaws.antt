@@ -60,7 +60,8 @@ pub start-small : (x : ℕ) → x < 504 → startOf (x + 1) ≤ length stored
 unfolding startOf stored Behind
 start-small x h =
     let b = behind 504 x h in
-    rw add-one (omega (arith, length-append (before x) (group x), ap length (b .1) ∙ length-append (before x) (group x ++ b .0), length-append (group x) (b .0)))
+    let all = ap length (b .1) ∙ length-append (before x) (group x ++ b .0) in
+    rw add-one (omega (arith, all, length-append (group x) (b .0), length-append (before x) (group x)))
 
 -- of one length: the group's
 abbrev ofN : ℕ → Entry → Bool

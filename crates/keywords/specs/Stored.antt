@@ -15,7 +15,7 @@ abbrev pub beginning : ℕ → List Entry → List Entry
 beginning b [] = []
 beginning b (e ∷ es) = cond (eqb (getD (e .word) 0 0) b) (e ∷ beginning b es) (beginning b es)
 
--- group 28 n + a: the words of n bytes that begin with letter a, A being letter 0. Each length has two groups more than letters, without words
+-- group 28 n + a: the words of n bytes that begin with letter a, A being letter 0. No word is in the two groups of a length behind Z
 unfoldable pub group : ℕ → List Entry
 group x = beginning (code "A" + x % 28) (ofLength (x / 28) wordList)
 

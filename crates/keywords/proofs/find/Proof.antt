@@ -1,8 +1,8 @@
 -- `keywords::find` meets its contract. The loop's invariant: the words of the group from k on decide the kind. Assumes nothing.
 use Prim.Native.Nat.{ℕ, _+_, _*_, _-_, _/_, _≤_, _<_}
 use native.Mathlib.Omega.{arith}
+use mathlib.Core.Path.{_≡_, sym, _∙_}
 use mathlib.Core.Bool.{Bool}
-use mathlib.Core.Path.{_≡_, refl, sym, _∙_, ap}
 use lib.ListN.{length}
 use borrow.Author.Needs.{needs}
 use Rattle.keywords.specs.Words.{same}
@@ -42,7 +42,10 @@ module _ (t : tie.In-loop Inv-loop μ-loop) where
       let n : x / 28 ≡ entry .args .n = omega arith in
       place (entry .args .n) k inside (l ∙ n)
 
-compares : (q : tie.After-same-row Inv-loop μ-loop) → q .same-row .result ≡ same (entry (q .before .before) .args .row .now) (rowOf 17 (wordAt (k (q .before .before))))
+  abbrev comparison : Bool
+  comparison = same (entry .args .row .now) (rowOf 17 (wordAt k))
+
+compares : (q : tie.After-same-row Inv-loop μ-loop) → q .same-row .result ≡ comparison (q .before .before)
 compares q = q .same-row .ensures ∙ rw (q .before .skip .ensures, here (q .before .before) .word)
 
 mul-x : tie.Need-mul-x Inv-loop μ-loop
@@ -63,7 +66,9 @@ start-of-requires-2 c κs = search needs
 loop-holds : tie.Need-loop-holds Inv-loop μ-loop
 loop-holds c =
     let a = c .before .before .args in
-    (c .start-of2 .ensures, omega (arith, c .before .start-of .ensures), rw (c .before .start-of .ensures, c .start-of2 .ensures) (left-all (28 * a .n + a .a) (a .row .now) (omega arith)))
+    let k = c .before .start-of .ensures in
+    let end = c .start-of2 .ensures in
+    (end, omega (arith, k), rw (k, end) (left-all (28 * a .n + a .a) (a .row .now) (omega arith)))
 
 mul-same-row : tie.Need-mul-same-row Inv-loop μ-loop
 mul-same-row c = record { fits = omega (arith, here c .small) }
@@ -86,9 +91,9 @@ returns : tie.Need-returns Inv-loop μ-loop
 returns c =
     let q = c .before .before in
     let t = q .before .before in
-    let s = entry t in
-    let f = left-found (x t) (s .args .row .now) (k t) _ (t .loop-test .taken) (ends t) _ (compares q) (c .before .if1 .taken) (t .before .loop .inv .2) in
-    c .kind-at .ensures ∙ sym f
+    let r = entry t .args .row .now in
+    let l = t .before .loop .inv .2 in
+    c .kind-at .ensures ∙ sym (left-found (x t) r (k t) _ (t .loop-test .taken) (ends t) _ (compares q) (c .before .if1 .taken) l)
 
 add-k : tie.Need-add-k Inv-loop μ-loop
 add-k c = search needs
@@ -100,9 +105,9 @@ loop-again : tie.Need-loop-again Inv-loop μ-loop
 loop-again c =
     let q = c .before in
     let t = q .before .before in
-    let s = entry t in
-    let m = left-more (x t) (s .args .row .now) (k t) _ (t .loop-test .taken) (ends t) _ (compares q) (c .if1 .left) (t .before .loop .inv .2) in
-    (t .before .loop .inv .0, omega (arith, t .before .loop .inv .1), m)
+    let r = entry t .args .row .now in
+    let i = t .before .loop .inv in
+    (i .0, omega (arith, i .1), left-more (x t) r (k t) _ (t .loop-test .taken) (ends t) _ (compares q) (c .if1 .left) (i .2))
 
 returns-2 : tie.Need-returns-2 Inv-loop μ-loop
 returns-2 c =

@@ -1,5 +1,4 @@
 -- `keywords::kind_at` meets its contract: the byte that is taken out of its table's number. Assumes nothing.
-use native.Mathlib.Omega.{arith}
 use borrow.Author.Needs.{needs}
 use Rattle.keywords.specs.Stored.{kindAt}
 use Rattle.keywords.proofs.PackLaws.{taken}

@@ -1,14 +1,10 @@
--- `keywords::kind_of_row` meets its contract: a row of too many bytes, or one that begins with no letter from A to Z, is no word's; any other
--- can only be a word's of its group. Assumes nothing.
+-- `keywords::kind_of_row` meets its contract: a row of too many bytes, or one that begins with no letter from A to Z, is no word's; any
+-- other can only be that of a word of its group. Assumes nothing.
 use Prim.Native.Nat.{_-_}
 use native.Mathlib.Omega.{arith}
-use mathlib.Core.Path.{_≡_, sym, _∙_, ap}
-use mathlib.Core.List.{map}
+use mathlib.Core.Path.{sym, _∙_}
 use lib.ListN.{getD}
 use borrow.Author.Needs.{needs}
-use Rattle.keywords.specs.Words.{kindIn}
-use Rattle.keywords.specs.Rows.{rowEntry}
-use Rattle.keywords.specs.Stored.{group}
 use Rattle.keywords.proofs.RowLaws.{left-out, below-letters, above-letters}
 use Rattle.keywords.proofs.StoredLaws.{group-decides}
 use Rattle.keywords.proofs.kind_of_row.Statement.{statement}

@@ -1,5 +1,4 @@
 -- `keywords::letter_at` meets its contract: the byte that is taken out of its table's number. Assumes nothing.
-use native.Mathlib.Omega.{arith}
 use borrow.Author.Needs.{needs}
 use Rattle.keywords.specs.Stored.{letterAt}
 use Rattle.keywords.proofs.PackLaws.{taken}

@@ -89,7 +89,9 @@ loop-again c =
     let s = c .before .before .before .before .before .before in
     let l = c .before .before .before .before .before .loop in
     let e = c .before .before .before .index .ensures in
-    (omega arith, l .inv .1 ∙ steps s (l .i) (omega arith) (rw (← e) (c .if1 .left) ∙ c .before .letter-at .ensures ∙ sym (letter s (l .i) (omega arith))))
+    let q : getD (row s) (l .i) 0 ≡ getD (other s) (l .i) 0 =
+    rw (← e) (c .if1 .left) ∙ c .before .letter-at .ensures ∙ sym (letter s (l .i) (omega arith)) in
+    (omega arith, l .inv .1 ∙ steps s (l .i) (omega arith) q)
 
 loop2-holds : tie.Need-loop2-holds Inv-loop μ-loop Inv-loop2 μ-loop2
 loop2-holds c = search needs
