@@ -10,6 +10,7 @@ ghost use Rattle.keywords.specs.Words.{same, kindIn};
 ghost use Rattle.keywords.specs.Rows.{rowOf, rowEntry, kindOfRow};
 ghost use Rattle.keywords.specs.Stored.{group, startOf, store, letterAt, kindAt};
 
+// The lookup counts in 32-bit numbers, which a small device holds in a register.
 fn wide(b: u8) -> u32
     ensures { λ r. ⌜ r ≡ b ⌝ }
 {
@@ -83,7 +84,7 @@ fn same_row(row: &[u8; 17], n: u32, p: u32) -> bool
     true
 }
 
-// Walks the words of n bytes that begin with letter a, A being letter 0.
+// Walks the words of n bytes that begin with letter a, A being letter 0: at most four.
 fn find(row: &[u8; 17], n: u32, a: u32) -> u32
     requires { ⌜ n ≤ 17 ⌝ }
     requires { ⌜ a < 26 ⌝ }
