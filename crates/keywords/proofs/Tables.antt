@@ -50,7 +50,7 @@ kindList =
     66 ∷
     []
 
--- how many words each group has: a line for each length, a digit for each letter
+-- how many words each group has: a line for each length, a digit for each of its groups
 abbrev digits : String → List ℕ
 digits s = map (λ d. d - 48) (bytes s)
 

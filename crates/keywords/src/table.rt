@@ -403,7 +403,7 @@ pub(crate) fn skip(n: u32) -> u32
     }
 }
 
-// The words' kinds.
+// The words' kinds: KINDS_0 has those of words 0 to 3.
 const KINDS_0: u32 = kinds::TK_AS | kinds::TK_BY << 8 | kinds::TK_DO << 16 | kinds::TK_IF << 24;
 
 const KINDS_4: u32 = kinds::TK_IN | kinds::TK_IS << 8 | kinds::TK_NO << 16 | kinds::TK_OF << 24;
