@@ -14,6 +14,7 @@ pub mod Unrecognized
 pub mod Equal
 pub mod TextLaws
 pub mod Seen
+pub mod Counts
 pub mod Scan
 pub mod RulePlaces
 pub mod Reading

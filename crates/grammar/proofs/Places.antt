@@ -7,7 +7,7 @@ use mathlib.Core.List.{List}
 use lib.ListN.{drop}
 use Rattle.keywords.proofs.Logic.{every}
 use Rattle.grammar.specs.Form.{Set, D, H, C, no, _or_, oneOf, holds}
-use Rattle.grammar.specs.Answers.{afterLast}
+use Rattle.grammar.specs.Answers.{afterLast, count, isHex}
 use Rattle.grammar.specs.Runs.{char, sees, seesPair, part, moved}
 use Rattle.grammar.proofs.Reading.{Reads, behind}
 
@@ -23,11 +23,17 @@ Only t s from to = every (holds t) (part s from to) ≡ true
 abbrev pub Group : Set → List ℕ → ℕ → ℕ → ℕ → Type 0
 Group t s from g at = max 1 (afterLast (no t) (part s from at)) ≡ g - from
 
+-- of the bytes from a place to before another, so many are digits of the set, and so many underscores
+pub record Counted (t : Set) (s : List ℕ) (from to n u : ℕ) : Type 0 where
+  pub digits : count t (part s from to) ≡ n
+  pub underscores : count (oneOf "_") (part s from to) ≡ u
+
 -- behind a number's first digit
 pub record Decimal (s : List ℕ) (start at : ℕ) : Type 0 where
   pub reads : Reads s start at (behind "1")
   pub digits : Only (D or oneOf "_") s start at
   pub run : Group D s start at at
+  pub counted : Counted D s start at 1 0
 
 -- at the dot behind a number's digits
 pub record Dot (s : List ℕ) (start at : ℕ) : Type 0 where
@@ -53,6 +59,7 @@ pub record Exponent (s : List ℕ) (start at : ℕ) : Type 0 where
 -- behind `0x`
 pub record Hex (s : List ℕ) (start at : ℕ) : Type 0 where
   pub two : at ≡ start + 2
+  pub begins : isHex (drop start s) ≡ true
   pub reads : Reads s start at (behind "0x")
   pub run : Group H s start at at
 

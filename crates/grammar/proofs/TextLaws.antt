@@ -60,7 +60,7 @@ isIn c (x ∷ l) = eqb x c || isIn c l
 
 -- A misspelt kind would have a number out of range: none of the table has. Its refusals are Next's.
 abbrev known : Answer → Bool
-known (token k start n next) = ltb k (length kindNames)
+known (token k start n next d u) = ltb k (length kindNames)
 known (end at) = true
 known (refusal k start n at) = isIn k (map (λ r. r .number) refusals)
 

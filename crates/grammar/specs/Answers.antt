@@ -1,12 +1,13 @@
 -- What each class of document 01 answers, as numbers. Assumes nothing.
-use Prim.Native.Nat.{ℕ, suc, _+_, _-_, max}
+use Prim.Native.Nat.{ℕ, suc, _+_, _-_, max, min}
 use Prim.Native.String.{String}
-use mathlib.Core.Bool.{Bool, true, false, cond}
+use mathlib.Core.Bool.{Bool, true, false, cond, _&&_, _||_}
 use mathlib.Core.List.{List, [], _∷_}
 use lib.Dec.{eqb}
-use lib.ListN.{length, take}
+use lib.ListN.{length, take, drop}
 use Rattle.keywords.specs.Kinds.{kind}
 use Rattle.keywords.specs.Words.{kindIn}
+use Rattle.words.specs.Bytes.{is}
 use Rattle.words.specs.Word.{kindOf}
 use Rattle.grammar.specs.Form.{Set, D, H, no, oneOf, holds}
 use Rattle.grammar.specs.Classes.{Class, blankRun, lineComment, blockComment, operator, string, quotedName, integer, float, blob, parameter}
@@ -15,14 +16,15 @@ use Rattle.grammar.specs.Classes.{wordAfterFraction, noExponent, wordAft
 use Rattle.grammar.specs.Classes.{operators}
 use Rattle.grammar.specs.Refusals.{refusalNumber}
 
--- a token with its kind, start, length and next offset; End with its offset; or a refusal with its number, span and resulting offset
+-- a token with its kind, start, length, next offset, and how many digits and underscores it has; End with its offset; or a refusal with
+-- its number, span and resulting offset
 pub data Answer : Type 0 where
-  token : (kind start length next : ℕ) → Answer
+  token : (kind start length next digits underscores : ℕ) → Answer
   end : (offset : ℕ) → Answer
   refusal : (number start length offset : ℕ) → Answer
 
 abbrev pub isRefusal : Answer → Bool
-isRefusal (token kind start length next) = false
+isRefusal (token kind start length next digits underscores) = false
 isRefusal (end offset) = false
 isRefusal (refusal number start length offset) = true
 
@@ -30,9 +32,33 @@ isRefusal (refusal number start length offset) = true
 abbrev pub pastEnd : ℕ → Answer
 pastEnd at = refusal (refusalNumber "OffsetPastEnd") 0 0 at
 
--- a legal lexeme w at an offset
+-- how many bytes of a set w has
+abbrev pub count : Set → List ℕ → ℕ
+count s [] = 0
+count s (b ∷ w) = cond (holds s b) (suc (count s w)) (count s w)
+
+-- a sum is a number of 32 bits: this many, or more
+abbrev pub most : ℕ
+most = 4294967295
+
+abbrev pub sum : ℕ → ℕ
+sum n = min n most
+
+-- an integer that begins with `0x` or `0X` has as digits the H behind that, any other its D
+abbrev pub isHex : List ℕ → Bool
+isHex [] = false
+isHex (a ∷ []) = false
+isHex (a ∷ b ∷ w) = is "0" a && (is "x" b || is "X" b)
+
+abbrev pub integerDigits : List ℕ → ℕ
+integerDigits w = cond (isHex w) (count H (drop 2 w)) (count D w)
+
+-- a legal lexeme w at an offset; and a number, which alone has digits and underscores
 abbrev pub legal : ℕ → ℕ → List ℕ → Answer
-legal k at w = token k at (length w) (at + length w)
+legal k at w = token k at (length w) (at + length w) 0 0
+
+abbrev pub numeral : ℕ → ℕ → List ℕ → ℕ → Answer
+numeral k at w digits = token k at (length w) (at + length w) (sum digits) (sum (count (oneOf "_") w))
 
 -- a malformed one: its span from a place of w on, with a length; it leaves the offset at the start
 abbrev pub refused : String → ℕ → ℕ → ℕ → Answer
@@ -69,8 +95,8 @@ answer blockComment at w = legal (kind "TK_NONE") at w
 answer operator at w = legal (kindIn operators w) at w
 answer string at w = legal (kind "TK_STRING") at w
 answer quotedName at w = legal (kind "TK_ID") at w
-answer integer at w = legal (kind "TK_INTEGER") at w
-answer float at w = legal (kind "TK_FLOAT") at w
+answer integer at w = numeral (kind "TK_INTEGER") at w (integerDigits w)
+answer float at w = numeral (kind "TK_FLOAT") at w (count D w)
 answer blob at w = legal (kind "TK_BLOB") at w
 answer parameter at w = legal (kind "TK_VARIABLE") at w
 -- from the word list, ASCII letters folded, else TK_ID

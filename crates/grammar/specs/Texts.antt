@@ -12,7 +12,7 @@ use Rattle.grammar.specs.Longest.{Gives}
 
 -- the offset that an answer leaves
 abbrev pub offset : Answer → ℕ
-offset (token k start n next) = next
+offset (token k start n next d u) = next
 offset (end at) = at
 offset (refusal k start n at) = at
 
@@ -32,24 +32,28 @@ t gives l = record { text = bytes t; from = 0; answers = l }
 
 -- a token by its kind's name
 abbrev pub tk : String → ℕ → ℕ → Answer
-tk name start n = token (kind name) start n (start + n)
+tk name start n = token (kind name) start n (start + n) 0 0
+
+-- a number, with how many digits and underscores it has
+abbrev pub num : String → ℕ → ℕ → ℕ → ℕ → Answer
+num name start n d u = token (kind name) start n (start + n) d u
 
 unfoldable pub table : List Row
 table =
     -- marked P
     "" gives (end 0 ∷ []) ∷
-    "1.a" gives (tk "TK_FLOAT" 0 2 ∷ tk "TK_ID" 2 1 ∷ end 3 ∷ []) ∷
+    "1.a" gives (num "TK_FLOAT" 0 2 1 0 ∷ tk "TK_ID" 2 1 ∷ end 3 ∷ []) ∷
     "1.5a" gives (refusal 4 1 2 0 ∷ []) ∷
     "12_x" gives (refusal 3 1 2 0 ∷ []) ∷
-    "1_2" gives (tk "TK_INTEGER" 0 3 ∷ end 3 ∷ []) ∷
+    "1_2" gives (num "TK_INTEGER" 0 3 2 1 ∷ end 3 ∷ []) ∷
     "0x_1" gives (refusal 3 2 0 0 ∷ []) ∷
-    "1e_5" gives (tk "TK_FLOAT" 0 4 ∷ end 4 ∷ []) ∷
+    "1e_5" gives (num "TK_FLOAT" 0 4 2 1 ∷ end 4 ∷ []) ∷
     "::a" gives (tk "TK_COLON" 0 1 ∷ tk "TK_VARIABLE" 1 2 ∷ end 3 ∷ []) ∷
     ":::" gives (refusal 1 0 3 0 ∷ []) ∷
     "'''" gives (refusal 2 0 3 0 ∷ []) ∷
     "/*/" gives (tk "TK_NONE" 0 3 ∷ end 3 ∷ []) ∷
     "x'1'" gives (refusal 1 0 4 0 ∷ []) ∷
-    "5.e-1" gives (tk "TK_FLOAT" 0 5 ∷ end 5 ∷ []) ∷
+    "5.e-1" gives (num "TK_FLOAT" 0 5 2 0 ∷ end 5 ∷ []) ∷
     -- the others of 'Texts and what they give' that speak of Next
     "1_2_x" gives (refusal 3 2 2 0 ∷ []) ∷
     "1e+" gives (refusal 5 1 2 0 ∷ []) ∷
@@ -60,7 +64,7 @@ table =
     "#ab" gives (tk "TK_ILLEGAL" 0 3 ∷ end 3 ∷ []) ∷
     record { text = 0x0B ∷ 0x41 ∷ 0x20 ∷ []; from = 0; answers = refusal 1 0 2 2 ∷ tk "TK_NONE" 2 1 ∷ end 3 ∷ [] } ∷
     "SELECT 1.e-1;\n" gives
-    (tk "TK_SELECT" 0 6 ∷ tk "TK_NONE" 6 1 ∷ tk "TK_FLOAT" 7 5 ∷ tk "TK_SEMI" 12 1 ∷ tk "TK_NONE" 13 1 ∷ end 14 ∷ []) ∷
+    (tk "TK_SELECT" 0 6 ∷ tk "TK_NONE" 6 1 ∷ num "TK_FLOAT" 7 5 2 0 ∷ tk "TK_SEMI" 12 1 ∷ tk "TK_NONE" 13 1 ∷ end 14 ∷ []) ∷
     -- every operator
     "();+*%,~[]-/>|<&.:=" gives
     (tk "TK_LP" 0 1 ∷ tk "TK_RP" 1 1 ∷ tk "TK_SEMI" 2 1 ∷ tk "TK_PLUS" 3 1 ∷ tk "TK_STAR" 4 1 ∷ tk "TK_REM" 5 1 ∷
@@ -72,13 +76,13 @@ table =
     tk "TK_GE" 13 2 ∷ tk "TK_RSHIFT" 15 2 ∷ tk "TK_NE" 17 2 ∷ tk "TK_CONCAT" 19 2 ∷ tk "TK_ARRAY_OVERLAP" 21 2 ∷
     tk "TK_ARRAY_CONTAINS" 23 2 ∷ end 25 ∷ []) ∷
     -- easy to get wrong
-    ":2" gives (tk "TK_COLON" 0 1 ∷ tk "TK_INTEGER" 1 1 ∷ end 2 ∷ []) ∷
+    ":2" gives (tk "TK_COLON" 0 1 ∷ num "TK_INTEGER" 1 1 1 0 ∷ end 2 ∷ []) ∷
     "'a''b'" gives (tk "TK_STRING" 0 6 ∷ end 6 ∷ []) ∷
     "\"a\"\"b\"" gives (tk "TK_ID" 0 6 ∷ end 6 ∷ []) ∷
     "x'12'" gives (tk "TK_BLOB" 0 5 ∷ end 5 ∷ []) ∷
     "x'1g'" gives (refusal 2 0 3 0 ∷ []) ∷
     "-- a\n->>" gives (tk "TK_NONE" 0 5 ∷ tk "TK_PTR" 5 3 ∷ end 8 ∷ []) ∷
-    "0X1_F" gives (tk "TK_INTEGER" 0 5 ∷ end 5 ∷ []) ∷
+    "0X1_F" gives (num "TK_INTEGER" 0 5 2 1 ∷ end 5 ∷ []) ∷
     "0x" gives (refusal 6 0 2 0 ∷ []) ∷
     "0x1_2_" gives (refusal 3 4 2 0 ∷ []) ∷
     "00x" gives (refusal 3 0 2 0 ∷ []) ∷
@@ -87,6 +91,16 @@ table =
     "!" gives (refusal 7 0 1 0 ∷ []) ∷
     "?1a" gives (tk "TK_VARIABLE" 0 2 ∷ tk "TK_ID" 2 1 ∷ end 3 ∷ []) ∷
     "returning" gives (tk "TK_RETURNING" 0 9 ∷ end 9 ∷ []) ∷
+    -- how many digits and underscores a number has, and that no other token has any
+    "0x1_F" gives (num "TK_INTEGER" 0 5 2 1 ∷ end 5 ∷ []) ∷
+    "1.5e+1_0" gives (num "TK_FLOAT" 0 8 4 1 ∷ end 8 ∷ []) ∷
+    "5." gives (num "TK_FLOAT" 0 2 1 0 ∷ end 2 ∷ []) ∷
+    "?12" gives (tk "TK_VARIABLE" 0 3 ∷ end 3 ∷ []) ∷
+    "0xE1e" gives (num "TK_INTEGER" 0 5 3 0 ∷ end 5 ∷ []) ∷
+    ".5_6e-_7" gives (num "TK_FLOAT" 0 8 3 2 ∷ end 8 ∷ []) ∷
+    "1_2.3_4e_5_6" gives (num "TK_FLOAT" 0 12 6 4 ∷ end 12 ∷ []) ∷
+    "a1_2" gives (tk "TK_ID" 0 4 ∷ end 4 ∷ []) ∷
+    -- from elsewhere than the beginning
     record { text = bytes "a"; from = 1; answers = end 1 ∷ [] } ∷
     record { text = bytes "a"; from = 2; answers = refusal 8 0 0 2 ∷ [] } ∷
     []
