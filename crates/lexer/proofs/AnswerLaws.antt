@@ -26,11 +26,11 @@ module _ {s : List ℕ} {start at k : ℕ} (e : Ends s start at k) where
 
   -- a legal lexeme
   pub token-lexes : (kind : ℕ) (r : Lexed) → answer (ruleAt rules k .class) start lexeme ≡ legal kind start lexeme
-      → r ≡ Token kind start (at - start) (cursor at) → Lexes s start r
+      → r ≡ Token kind start (at - start) (cursor at) 0 0 → Lexes s start r
   token-lexes kind r p q =
       let o = e .ordered in
       let l = ends-long e in
-      lexes r (legal kind start lexeme) p (rw (q, l) (ap (λ (n : ℕ). token kind start (at - start) n) (omega arith)))
+      lexes r (legal kind start lexeme) p (rw (q, l) (ap (λ (n : ℕ). token kind start (at - start) n 0 0) (omega arith)))
 
   -- a refused one whose span is the whole lexeme
   pub whole-lexes : (why : Refusal) (r : Lexed) → answer (ruleAt rules k .class) start lexeme ≡ refusal (numberOf why) (start + 0) (length lexeme) start
@@ -41,5 +41,5 @@ module _ {s : List ℕ} {start at k : ℕ} (e : Ends s start at k) where
       (rw (q, l) (ap (λ (n : ℕ). refusal (numberOf why) n (at - start) start) (omega arith)))
 
 -- a token of one byte
-pub one-token : (kind start at : ℕ) → at ≡ start + 1 → Token kind start (at - start) (cursor at) ≡ Token kind start 1 (cursor (start + 1))
+pub one-token : (kind start at : ℕ) → at ≡ start + 1 → Token kind start (at - start) (cursor at) 0 0 ≡ Token kind start 1 (cursor (start + 1)) 0 0
 one-token kind start at e = let d : at - start ≡ 1 = omega arith in rw (d, e)

@@ -15,7 +15,7 @@ use Rattle.grammar.proofs.Scan.{goes, meets}
 use Rattle.grammar.proofs.Reading.{Reads, Ends, reads-eat, reads-joined, reads-stop}
 use Rattle.lexer.specs.declared.digits.Digits.{Digits}
 use Rattle.lexer.specs.declared.digits.Digits.the-variants.{Read, Bad}
-use Rattle.lexer.specs.Eaten.{cursor, groups}
+use Rattle.lexer.specs.Eaten.{cursor, tally, groups}
 use Rattle.grammar.proofs.Places.{Only, Group}
 use Rattle.lexer.proofs.SpanLaws.{only-snoc, group-digit, group-start}
 
@@ -50,7 +50,7 @@ pub record Stuck (t : Set) (s : List ℕ) (from i g e k : ℕ) : Type 0 where
   pub text : line < length s
 
 abbrev Result : Set → Set → List ℕ → ℕ → ℕ → State → ℕ → Digits → Type 0
-Result t v s from i q k (Read c) = After t v s from i (c .at) q
+Result t v s from i q k (Read a) = After t v s from i (a .cursor .at) q
 Result t v s from i q k (Bad g c) = Stuck t s from i (g .at) (c .at) k
 
 module _ {t v : Set} {q u : State} {k : ℕ} (run : Run t v q u k) (s : List ℕ) (from : ℕ) where
@@ -66,32 +66,32 @@ module _ {t v : Set} {q u : State} {k : ℕ} (run : Run t v q u k) (s : List ℕ
     unfolding sees
     missed w h = rw e h
 
-  reads-digits : (base : ℕ) (l : List ℕ) (g i : ℕ) → drop i s ≡ l → Reads s from i q → Only v s from i → Group t s from g i → base ≤ g → g ≤ i
-      → Result t v s from base q k (groups t g i l)
+  reads-digits : (base : ℕ) (l : List ℕ) (g i n m : ℕ) → drop i s ≡ l → Reads s from i q → Only v s from i → Group t s from g i → base ≤ g → g ≤ i
+      → Result t v s from base q k (groups t g i n m l)
   unfolding groups sees
-  reads-digits base [] g i e p o r a h = record { reads = p; only = o; digit = rw e; line = rw e; up = omega arith }
-  reads-digits base (b ∷ l) g i e p o r a h =
+  reads-digits base [] g i n m e p o r a h = record { reads = p; only = o; digit = rw e; line = rw e; up = omega arith }
+  reads-digits base (b ∷ l) g i n m e p o r a h =
       split (holds t b)
       (λ x. let y = seen i b l e t x in
-      rw x (reads-digits base l g (i + 1) (tail i b l e) (reads-eat p t q (run .digit) y (sym (moved-one t s i y)))
+      rw x (reads-digits base l g (i + 1) (n + 1) m (tail i b l e) (reads-eat p t q (run .digit) y (sym (moved-one t s i y)))
       (only-snoc v s from i (p .ordered) t (run .digits-in) y o) (group-digit t s from i (p .ordered) g y r) a (omega arith)))
       (λ x. let y = missed i b l e t x in
       split (holds (char "_") b)
       (λ z. let w = seen i b l e (char "_") z in
       let under = reads-eat p (char "_") u (run .line) w (sym (moved-one (char "_") s i w)) in
       split (sees t l)
-      (λ n. let m : sees t (drop (i + 1) s) ≡ true = rw (tail i b l e) n in
-      rw (x, z, n) (reads-digits base l (i + 1) (i + 1) (tail i b l e) (reads-joined under q t q (run .back) m)
+      (λ f. let j : sees t (drop (i + 1) s) ≡ true = rw (tail i b l e) f in
+      rw (x, z, f) (reads-digits base l (i + 1) (i + 1) n (m + 1) (tail i b l e) (reads-joined under q t q (run .back) j)
       (only-snoc v s from i (p .ordered) (char "_") (run .line-in) w o)
       (group-start t s from i (p .ordered) (char "_") (run .apart) w) (omega arith) (omega arith)))
-      (λ n. let m : sees t (drop (i + 1) s) ≡ false = rw (tail i b l e) n in
-      let ends = reads-stop under t k (run .stop) (run .rule) m in
-      rw (x, z, n) (record { ends = ends; line = i; last = refl; group = r; up = a; inside = h; text = seen-in (char "_") s i w })))
+      (λ f. let j : sees t (drop (i + 1) s) ≡ false = rw (tail i b l e) f in
+      let ends = reads-stop under t k (run .stop) (run .rule) j in
+      rw (x, z, f) (record { ends = ends; line = i; last = refl; group = r; up = a; inside = h; text = seen-in (char "_") s i w })))
       (λ z. rw (x, z) (record { reads = p; only = o; digit = y; line = missed i b l e (char "_") z; up = omega arith })))
 
-  module _ {i : ℕ} (p : Reads s from i q) (o : Only v s from i) (r : Group t s from i i) where
-    pub digits-after : {e : ℕ} → Read (cursor e) ≡ groups t i i (drop i s) → After t v s from i e q
-    digits-after e = subst (Result t v s from i q k) (sym e) (reads-digits i (drop i s) i i refl p o r (omega arith) (omega arith))
+  module _ {i : ℕ} (p : Reads s from i q) (o : Only v s from i) (r : Group t s from i i) (n m : ℕ) where
+    pub digits-after : {e d x : ℕ} → Read (tally e d x) ≡ groups t i i n m (drop i s) → After t v s from i e q
+    digits-after f = subst (Result t v s from i q k) (sym f) (reads-digits i (drop i s) i i n m refl p o r (omega arith) (omega arith))
 
-    pub digits-stuck : {g e : ℕ} → Bad (cursor g) (cursor e) ≡ groups t i i (drop i s) → Stuck t s from i g e k
-    digits-stuck e = subst (Result t v s from i q k) (sym e) (reads-digits i (drop i s) i i refl p o r (omega arith) (omega arith))
+    pub digits-stuck : {g e : ℕ} → Bad (cursor g) (cursor e) ≡ groups t i i n m (drop i s) → Stuck t s from i g e k
+    digits-stuck f = subst (Result t v s from i q k) (sym f) (reads-digits i (drop i s) i i n m refl p o r (omega arith) (omega arith))

@@ -4,12 +4,13 @@ use native.Mathlib.Nat.{add-zero}
 use native.Mathlib.Numerals.{add-one}
 use native.Mathlib.Omega.{arith}
 use mathlib.Core.Path.{_≡_, refl, sym, _∙_, ap}
-use mathlib.Core.Bool.{Bool, true, false, true≢false}
+use mathlib.Core.Bool.{Bool, true, false, _&&_, true≢false}
 use mathlib.Core.List.{List, [], _∷_}
 use lib.ListN.{length, getD, drop, drop-of-length-le}
 use lib.Seq.{drop-cons, drop-drop}
-use Rattle.keywords.proofs.Logic.{split}
-use Rattle.grammar.specs.Form.{Set, byte, no, holds}
+use Rattle.keywords.proofs.Logic.{split, and-left, and-false}
+use Rattle.grammar.specs.Form.{Set, byte, no, _or_, holds}
+use Rattle.grammar.specs.Answers.{isHex}
 use Rattle.grammar.specs.Runs.{char, seesPair, sees, runLength, moved, optional, over}
 use Rattle.grammar.proofs.Seen.{moved-one, optional-one, over-on, moved-up, seen-in, pair-seen}
 use Rattle.lexer.specs.declared.cursor.Peek.the-variants.{Byte, Nothing}
@@ -75,6 +76,24 @@ pair-on s at h {d} {e} f g =
     let n = moved-one (char ":") s at x in
     let m = moved-up s d e g in
     (omega arith, seen-in (char ":") s at x)
+
+-- `0x`
+hex-sees : (l : List ℕ) → isHex l ≡ sees (char "0") l && sees (char "x" or char "X") (drop 1 l)
+unfolding sees
+hex-sees [] = refl
+hex-sees (a ∷ []) = sym (and-false (holds (char "0") a))
+hex-sees (a ∷ b ∷ l) = refl
+
+pub hex-zero : (l : List ℕ) → isHex l ≡ true → sees (char "0") l ≡ true
+hex-zero l e = and-left (sees (char "0") l) _ (sym (hex-sees l) ∙ e)
+
+pub hex-no-zero : (l : List ℕ) → false ≡ sees (char "0") l → false ≡ isHex l
+hex-no-zero l e = rw (hex-sees l, ← e)
+
+-- behind a 0 the `x` decides
+pub hex-then : (s : List ℕ) (at d : ℕ) → sees (char "0") (drop at s) ≡ true → d ≡ moved at s → {b : Bool} → isHex (drop at s) ≡ b
+    → sees (char "x" or char "X") (drop d s) ≡ b
+hex-then s at d z f e = rw (f, moved-one (char "0") s at z, ← drop-drop 1 at s) (sym (hex-sees (drop at s) ∙ rw z) ∙ e)
 
 -- an optional byte
 pub optional-taken : (t : Set) (s : List ℕ) (at d : ℕ) → sees t (drop at s) ≡ true → d ≡ moved at s → d ≡ optional t at s

@@ -12,17 +12,18 @@ use Rattle.grammar.specs.Classes.{operators, rules}
 use Rattle.grammar.specs.Answers.{first, answer}
 use Rattle.grammar.specs.Runs.{char, sees, part, moved, optional}
 use Rattle.grammar.proofs.Seen.{misses-none, misses-or, or-left, or-right, or-other, inside-sees, except-sees}
-use Rattle.grammar.proofs.Seen.{moved-one, moved-up, optional-one, optional-none}
+use Rattle.grammar.proofs.Seen.{moved-one, moved-up, optional-one, optional-none, optional-up}
 use Rattle.grammar.proofs.RulePlaces.{floatRule, underscoreRule, noExponentRule, wordAfterExponentRule}
 use Rattle.grammar.proofs.Reading.{Reads, Ends, behind, ends-long, ends-in, reads-eat, reads-joined, reads-stop}
 use Rattle.lexer.specs.declared.lexed.Refusal.the-variants.{BadExponentPart}
 use Rattle.lexer.specs.declared.lexed.Lexed.{Lexed}
 use Rattle.lexer.specs.declared.lexed.Lexed.the-variants.{Refused}
 use Rattle.lexer.specs.declared.digits.Digits.the-variants.{Read, Bad}
-use Rattle.lexer.specs.Eaten.{cursor, groups}
-use Rattle.grammar.proofs.Places.{Group, Exponent}
+use Rattle.lexer.specs.Eaten.{cursor, tally, groups}
+use Rattle.grammar.proofs.Places.{Group, Counted, Exponent}
 use Rattle.lexer.specs.Values.{Lexes}
 use Rattle.lexer.proofs.SpanLaws.{init-long, only-any, first-in, group-start}
+use Rattle.lexer.proofs.CountLaws.{counted-other}
 use Rattle.lexer.proofs.GroupLaws.{endOf, groups-read}
 use Rattle.lexer.proofs.DigitLaws.{Run, After, Stuck, digits-after, digits-stuck}
 use Rattle.lexer.proofs.NumberLaws.{span-lexes}
@@ -65,6 +66,18 @@ module _ {s : List ℕ} {from at d n : ℕ} (p : Exponent s from at) (f : d ≡ 
       (λ h. rw (g ∙ optional-one _ s d h) (group-start D s from d (e-reads .ordered) (char "+" or char "-") refl h))
       (λ h. rw (unsigned h ∙ next) (group-start D s from at o (char "e" or char "E") refl (p .e)))
 
+  -- neither `e` nor sign is a digit or `_`
+  pub exponent-counted : {i u : ℕ} → Counted D s from at i u → Counted D s from n i u
+  unfolding isDigit
+  exponent-counted {i} {u} c =
+      let behind-e : Counted D s from d i u = rw next (counted-other D (p .ordered) c (char "e" or char "E") (p .e) refl refl) in
+      split (sees (char "+" or char "-") (drop d s))
+      (λ h. rw (g ∙ optional-one _ s d h) (counted-other D (e-reads .ordered) behind-e (char "+" or char "-") h refl refl))
+      (λ h. rw (unsigned h) behind-e)
+
+  pub exponent-up : from ≤ n
+  exponent-up = omega (arith, p .ordered, next, optional-up _ s d n g)
+
   -- something of a digit run follows
   exponent-digits : sees (D or char "_") (drop n s) ≡ true → Reads s from n (behind "1e5")
   unfolding behind rules operators isDigit isHexdigit isIdentifierStart isIdentifierContinue isBlank
@@ -87,14 +100,14 @@ module _ {s : List ℕ} {from at d n : ℕ} (p : Exponent s from at) (f : d ≡ 
       let q : Reads s from n (behind "1e") = rw e e-reads in
       reads-stop q (D or char "_" or char "+" or char "-") noExponentRule refl refl (misses-or _ _ _ x (misses-or _ _ _ y (rw e h))))
 
-  exponent-empty : sees (D or char "_") (drop n s) ≡ false → groups D n n (drop n s) ≡ Read (cursor n)
-  exponent-empty h = groups-read D n n (drop n s) (or-left D (char "_") (drop n s) h) (or-right D (char "_") (drop n s) h)
+  exponent-empty : (m u : ℕ) → sees (D or char "_") (drop n s) ≡ false → groups D n n m u (drop n s) ≡ Read (tally n m u)
+  exponent-empty m u h = groups-read D n n m u (drop n s) (or-left D (char "_") (drop n s) h) (or-right D (char "_") (drop n s) h)
 
-  pub exponent-stuck : {k e : ℕ} → Bad (cursor k) (cursor e) ≡ groups D n n (drop n s) → Stuck D s from n k e underscoreRule
-  exponent-stuck b =
+  pub exponent-stuck : (m u : ℕ) {k e : ℕ} → Bad (cursor k) (cursor e) ≡ groups D n n m u (drop n s) → Stuck D s from n k e underscoreRule
+  exponent-stuck m u b =
       split (sees (D or char "_") (drop n s))
-      (λ h. digits-stuck exponent-run s from (exponent-digits h) (only-any s from n) exponent-group b)
-      (λ h. absurd (let z = b ∙ exponent-empty h in let y : _≡_ {A = Bool} true false = cc in true≢false y))
+      (λ h. digits-stuck exponent-run s from (exponent-digits h) (only-any s from n) exponent-group m u b)
+      (λ h. absurd (let z = b ∙ exponent-empty m u h in let y : _≡_ {A = Bool} true false = cc in true≢false y))
 
   -- the span begins with the `e`
   first-e : {i : ℕ} → at < i → i ≤ length s → first (oneOf "eE") (part s from i) ≡ at - from
@@ -106,17 +119,17 @@ module _ {s : List ℕ} {from at d n : ℕ} (p : Exponent s from at) (f : d ≡ 
   up-sign : at < n
   up-sign = let m = next in split (sees (char "+" or char "-") (drop d s)) (λ h. omega (arith, g, optional-one _ s d h)) (λ h. omega (arith, unsigned h))
 
-  module _ {e : ℕ} (b : Read (cursor e) ≡ groups D n n (drop n s)) where
+  module _ (m u : ℕ) {e i v : ℕ} (b : Read (tally e i v) ≡ groups D n n m u (drop n s)) where
     pub exponent-after : (n ≡ e → ⊥) → After D any s from n e (behind "1e5")
     exponent-after k =
         split (sees (D or char "_") (drop n s))
-        (λ h. digits-after exponent-run s from (exponent-digits h) (only-any s from n) exponent-group b)
-        (λ h. absurd (k (sym (ap endOf (b ∙ exponent-empty h)))))
+        (λ h. digits-after exponent-run s from (exponent-digits h) (only-any s from n) exponent-group m u b)
+        (λ h. absurd (k (sym (ap endOf (b ∙ exponent-empty m u h)))))
 
     exponent-missing : n ≡ e → Ends s from n noExponentRule
     exponent-missing k =
         split (sees (D or char "_") (drop n s))
-        (λ h. let a = digits-after exponent-run s from (exponent-digits h) (only-any s from n) exponent-group b in
+        (λ h. let a = digits-after exponent-run s from (exponent-digits h) (only-any s from n) exponent-group m u b in
         absurd (true≢false (sym h ∙ misses-or D (char "_") (drop n s) (rw k (a .digit)) (rw k (a .line)))))
         (λ h. exponent-none (or-left D (char "_") (drop n s) h) (or-right D (char "_") (drop n s) h))
 

@@ -17,10 +17,11 @@ use Rattle.lexer.specs.declared.lexed.Refusal.the-variants.{BadFractiona
 use Rattle.lexer.specs.declared.lexed.Lexed.{Lexed}
 use Rattle.lexer.specs.declared.lexed.Lexed.the-variants.{Refused}
 use Rattle.lexer.specs.declared.digits.Digits.the-variants.{Read, Bad}
-use Rattle.lexer.specs.Eaten.{cursor, groups}
-use Rattle.grammar.proofs.Places.{At, Only, Group, Dot, Fraction, Exponent}
+use Rattle.lexer.specs.Eaten.{cursor, tally, groups}
+use Rattle.grammar.proofs.Places.{At, Only, Group, Counted, Dot, Fraction, Exponent}
 use Rattle.lexer.specs.Values.{Lexes}
 use Rattle.lexer.proofs.SpanLaws.{init-long, only-none, only-snoc, only-inside, first-in, group-start}
+use Rattle.lexer.proofs.CountLaws.{counted-none, counted-other}
 use Rattle.lexer.proofs.DigitLaws.{Run, After, Stuck, digits-after, digits-stuck}
 use Rattle.lexer.proofs.NumberLaws.{span-lexes, wordStart}
 
@@ -33,6 +34,10 @@ module _ {s : List ℕ} {from at d : ℕ} (p : Dot s from at) (f : d ≡ moved a
   dot-reads : Reads s from d (behind "1.")
   unfolding behind rules operators isDigit isHexdigit isIdentifierStart isIdentifierContinue isBlank
   dot-reads = reads-eat (p .reads) (char ".") (behind "1.") refl (p .dot) f
+
+  pub dot-counted : {n u : ℕ} → Counted D s from at n u → Counted D s from d n u
+  unfolding isDigit
+  dot-counted c = rw (f ∙ moved-one (char ".") s at (p .dot)) (counted-other D (p .reads .ordered) c (char ".") (p .dot) refl refl)
 
   pub dot-fraction : sees D (drop d s) ≡ true → Fraction s from d at
   unfolding behind rules operators isDigit isHexdigit isIdentifierStart isIdentifierContinue isBlank
@@ -71,6 +76,10 @@ first-fraction s from d h f k = record {
   digits = only-none (D or oneOf "_") s from;
 }
 
+pub first-counted : (s : List ℕ) (from d : ℕ) → At (char ".") from s → d ≡ moved from s → Counted D s from d 0 0
+unfolding isDigit
+first-counted s from d h f = rw (f ∙ moved-one (char ".") s from h) (counted-other D (omega arith) (counted-none D s from) (char ".") h refl refl)
+
 -- behind the digits of a fraction
 module _ {s : List ℕ} {from i at : ℕ} (a : After D (D or oneOf "_.") s from i at (behind "1.5")) where
   pub fraction-e : sees (char "e" or char "E") (drop at s) ≡ true → Exponent s from at
@@ -99,11 +108,11 @@ module _ {s : List ℕ} {from at dot : ℕ} (p : Fraction s from at dot) where
   unfolding isDigit
   fraction-group = rw (p .next) (group-start D s from dot (p .ordered) (char ".") refl (p .seen))
 
-  pub fraction-stuck : {g e : ℕ} → Bad (cursor g) (cursor e) ≡ groups D at at (drop at s) → Stuck D s from at g e underscoreRule
-  fraction-stuck b = digits-stuck fraction-run s from (p .reads) through-dot fraction-group b
+  pub fraction-stuck : (n u : ℕ) {g e : ℕ} → Bad (cursor g) (cursor e) ≡ groups D at at n u (drop at s) → Stuck D s from at g e underscoreRule
+  fraction-stuck n u b = digits-stuck fraction-run s from (p .reads) through-dot fraction-group n u b
 
-  pub fraction-after : {e : ℕ} → Read (cursor e) ≡ groups D at at (drop at s) → After D (D or oneOf "_.") s from at e (behind "1.5")
-  fraction-after b = digits-after fraction-run s from (p .reads) through-dot fraction-group b
+  pub fraction-after : (n u : ℕ) {e d x : ℕ} → Read (tally e d x) ≡ groups D at at n u (drop at s) → After D (D or oneOf "_.") s from at e (behind "1.5")
+  fraction-after n u b = digits-after fraction-run s from (p .reads) through-dot fraction-group n u b
 
   pub fraction-word-lexed : {e : ℕ} → After D (D or oneOf "_.") s from at e (behind "1.5") → sees (char "e" or char "E") (drop e s) ≡ false
       → sees S (drop e s) ≡ true → (r : Lexed) → r ≡ Refused BadFractionalPart dot (e - dot) (cursor from) → Lexes s from r

@@ -19,10 +19,11 @@ use Rattle.lexer.specs.declared.lexed.Lexed.{Lexed}
 use Rattle.lexer.specs.declared.lexed.Lexed.the-variants.{Refused}
 use Rattle.lexer.specs.declared.digits.Digits.{Digits}
 use Rattle.lexer.specs.declared.digits.Digits.the-variants.{Read, Bad}
-use Rattle.lexer.specs.Eaten.{cursor, groups, hexGroups}
-use Rattle.grammar.proofs.Places.{Hex}
+use Rattle.lexer.specs.Eaten.{cursor, tally, groups, hexGroups}
+use Rattle.grammar.proofs.Places.{Counted, Hex}
 use Rattle.lexer.specs.Values.{Lexes}
 use Rattle.lexer.proofs.SpanLaws.{init-part, init-long, only-any}
+use Rattle.lexer.proofs.CountLaws.{hex-apart, counted-none, counted-run}
 use Rattle.lexer.proofs.GroupLaws.{endOf, firstOf, groups-read, hex-groups, hex-empty}
 use Rattle.lexer.proofs.DigitLaws.{Run, After, Stuck, digits-after, digits-stuck}
 use Rattle.lexer.proofs.NumberLaws.{span-lexes}
@@ -43,8 +44,8 @@ module _ {s : List ℕ} {from i g e : ℕ} (r : Lexed) (f : r ≡ Refused BadNum
       let l = ends-long (b .ends) in
       span-lexes (b .ends) BadNumber _ _ refl _ _ (omega arith) (omega arith) r f
 
--- behind `0x`
-module _ {s : List ℕ} {from at : ℕ} (p : Hex s from at) where
+-- behind `0x`, with so many digits and underscores counted
+module _ {s : List ℕ} {from at : ℕ} (p : Hex s from at) (n u : ℕ) where
   hex-reads : sees H (drop at s) ≡ true → Reads s from at (behind "0x1")
   unfolding behind rules operators isDigit isHexdigit isIdentifierStart isIdentifierContinue isBlank
   hex-reads h = reads-joined (p .reads) (behind "0x1") H (behind "0x1") refl h
@@ -58,56 +59,60 @@ module _ {s : List ℕ} {from at : ℕ} (p : Hex s from at) where
   hex-none x y = reads-stop (p .reads) (H or char "_") noHexdigitRule refl refl (misses-or _ _ _ x y)
 
   -- what a run is, if it does not begin with `_`
-  hex-plain : {d : Digits} → d ≡ hexGroups at (drop at s) → sees (char "_") (drop at s) ≡ false → d ≡ groups H at at (drop at s)
-  hex-plain b h = b ∙ hex-groups at (drop at s) h
+  hex-plain : {d : Digits} → d ≡ hexGroups at n u (drop at s) → sees (char "_") (drop at s) ≡ false → d ≡ groups H at at n u (drop at s)
+  hex-plain b h = b ∙ hex-groups at n u (drop at s) h
 
   -- `_` at once, or behind digits
-  pub hex-bad-lexed : {g e : ℕ} → Bad (cursor g) (cursor e) ≡ hexGroups at (drop at s) → (r : Lexed) → r ≡ Refused BadNumber g (e - g) (cursor from)
+  pub hex-bad-lexed : {g e : ℕ} → Bad (cursor g) (cursor e) ≡ hexGroups at n u (drop at s) → (r : Lexed) → r ≡ Refused BadNumber g (e - g) (cursor from)
       → Lexes s from r
   unfolding rules answer
   hex-bad-lexed {g} {e} b r f =
       let w = p .two in
       split (sees (char "_") (drop at s))
-      (λ h. let z = b ∙ hex-empty at (drop at s) h in
+      (λ h. let z = b ∙ hex-empty at n u (drop at s) h in
       let x : g ≡ at = ap firstOf z in
       let y : e ≡ at = ap endOf z in
       span-lexes (hex-line h) BadNumber 2 0 refl g (e - g) (omega arith) (omega arith) r f)
       (λ h. split (sees H (drop at s))
-      (λ k. hex-stuck-lexed r f (omega arith) (digits-stuck hex-run s from (hex-reads k) (only-any s from at) (p .run) (hex-plain b h)))
-      (λ k. absurd (let z = hex-plain b h ∙ groups-read H at at (drop at s) k h in let y : _≡_ {A = Bool} true false = cc in true≢false y)))
+      (λ k. hex-stuck-lexed r f (omega arith) (digits-stuck hex-run s from (hex-reads k) (only-any s from at) (p .run) n u (hex-plain b h)))
+      (λ k. absurd (let z = hex-plain b h ∙ groups-read H at at n u (drop at s) k h in let y : _≡_ {A = Bool} true false = cc in true≢false y)))
 
-  pub hex-span : {g e : ℕ} → Bad (cursor g) (cursor e) ≡ hexGroups at (drop at s) → g ≤ e
+  pub hex-span : {g e : ℕ} → Bad (cursor g) (cursor e) ≡ hexGroups at n u (drop at s) → g ≤ e
   hex-span {g} {e} b =
       split (sees (char "_") (drop at s))
-      (λ h. let z = b ∙ hex-empty at (drop at s) h in omega (arith, ap firstOf z, ap endOf z))
+      (λ h. let z = b ∙ hex-empty at n u (drop at s) h in omega (arith, ap firstOf z, ap endOf z))
       (λ h. split (sees H (drop at s))
-      (λ k. let stuck = digits-stuck hex-run s from (hex-reads k) (only-any s from at) (p .run) (hex-plain b h) in
+      (λ k. let stuck = digits-stuck hex-run s from (hex-reads k) (only-any s from at) (p .run) n u (hex-plain b h) in
       omega (arith, stuck .inside, stuck .last))
-      (λ k. absurd (let z = hex-plain b h ∙ groups-read H at at (drop at s) k h in let y : _≡_ {A = Bool} true false = cc in true≢false y)))
+      (λ k. absurd (let z = hex-plain b h ∙ groups-read H at at n u (drop at s) k h in let y : _≡_ {A = Bool} true false = cc in true≢false y)))
 
-  module _ {e : ℕ} (b : Read (cursor e) ≡ hexGroups at (drop at s)) where
+  module _ {e i v : ℕ} (b : Read (tally e i v) ≡ hexGroups at n u (drop at s)) where
     starts : sees (char "_") (drop at s) ≡ false
     starts =
         split (sees (char "_") (drop at s))
-        (λ h. absurd (let z = b ∙ hex-empty at (drop at s) h in let y : _≡_ {A = Bool} true false = cc in true≢false y))
+        (λ h. absurd (let z = b ∙ hex-empty at n u (drop at s) h in let y : _≡_ {A = Bool} true false = cc in true≢false y))
         (λ h. h)
 
     pub hex-after : (at ≡ e → ⊥) → After H any s from at e (behind "0x1")
-    hex-after n =
+    hex-after m =
         split (sees H (drop at s))
-        (λ k. digits-after hex-run s from (hex-reads k) (only-any s from at) (p .run) (hex-plain b starts))
-        (λ k. absurd (n (sym (ap endOf (hex-plain b starts ∙ groups-read H at at (drop at s) k starts)))))
+        (λ k. digits-after hex-run s from (hex-reads k) (only-any s from at) (p .run) n u (hex-plain b starts))
+        (λ k. absurd (m (sym (ap endOf (hex-plain b starts ∙ groups-read H at at n u (drop at s) k starts)))))
 
     hex-missing : at ≡ e → Ends s from at noHexdigitRule
-    hex-missing n =
+    hex-missing m =
         split (sees H (drop at s))
-        (λ k. let a = digits-after hex-run s from (hex-reads k) (only-any s from at) (p .run) (hex-plain b starts) in
-        absurd (true≢false (sym k ∙ rw n (a .digit))))
+        (λ k. let a = digits-after hex-run s from (hex-reads k) (only-any s from at) (p .run) n u (hex-plain b starts) in
+        absurd (true≢false (sym k ∙ rw m (a .digit))))
         (λ k. hex-none k starts)
 
     pub hex-missing-lexed : at ≡ e → (r : Lexed) → r ≡ Refused MalformedHexInteger from (e - from) (cursor from) → Lexes s from r
     unfolding rules answer
-    hex-missing-lexed n r f = let w = p .two in span-lexes (hex-missing n) MalformedHexInteger 0 2 refl _ _ (omega arith) (omega arith) r f
+    hex-missing-lexed m r f = let w = p .two in span-lexes (hex-missing m) MalformedHexInteger 0 2 refl _ _ (omega arith) (omega arith) r f
+
+-- the digits and underscores behind `0x`
+pub hex-counted : {s : List ℕ} {from at : ℕ} → Hex s from at → {e d x : ℕ} → Read (tally e d x) ≡ hexGroups at 0 0 (drop at s) → Counted H s at e d x
+hex-counted {s} {from} {at} p b = counted-run hex-apart s at at 0 0 (omega arith) (counted-none H s at) (hex-plain p 0 0 b (starts p 0 0 b))
 
 -- behind hexadecimal digits
 module _ {s : List ℕ} {from i at : ℕ} (a : After H any s from i at (behind "0x1")) where

@@ -51,7 +51,7 @@ module _ {s : List ℕ} {from at : ℕ} (p : Reads s from at (behind "a")) {d : 
   unfolding behind rules operators isDigit isHexdigit isIdentifierStart isIdentifierContinue isBlank
   word-ends = reads-stop (reads-while p C refl f) C wordRule refl refl (over-stops _ _ _ _ f)
 
-  pub word-lexed : (k : ℕ) → k ≡ kindOf (part s from d) → (r : Lexed) → r ≡ Token k from (d - from) (cursor d) → Lexes s from r
+  pub word-lexed : (k : ℕ) → k ≡ kindOf (part s from d) → (r : Lexed) → r ≡ Token k from (d - from) (cursor d) 0 0 → Lexes s from r
   unfolding rules answer
   word-lexed k e r q = token-lexes word-ends k r (rw e) q
 
@@ -61,7 +61,7 @@ module _ {s : List ℕ} {from at : ℕ} (p : Spelled s from at (bytes "#")) {d :
   unfolding behind rules operators isDigit isHexdigit isIdentifierStart isIdentifierContinue isBlank
   illegal-ends = reads-stop (reads-while (spelled-reads p refl) C refl f) C illegalRule refl refl (over-stops _ _ _ _ f)
 
-  pub illegal-lexed : (r : Lexed) → r ≡ Token (kind "TK_ILLEGAL") from (d - from) (cursor d) → Lexes s from r
+  pub illegal-lexed : (r : Lexed) → r ≡ Token (kind "TK_ILLEGAL") from (d - from) (cursor d) 0 0 → Lexes s from r
   unfolding rules answer
   illegal-lexed r q = token-lexes illegal-ends (kind "TK_ILLEGAL") r refl q
 

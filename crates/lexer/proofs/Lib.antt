@@ -7,6 +7,7 @@ pub mod QuotedLaws
 pub mod IdentifierLaws
 pub mod ParameterLaws
 pub mod SpanLaws
+pub mod CountLaws
 pub mod DigitLaws
 pub mod NumberLaws
 pub mod IntegerLaws

@@ -8,11 +8,11 @@ use Rattle.lexer.specs.declared.cursor.Cursor.{Cursor}
 use Rattle.lexer.specs.declared.lexed.Lexed.the-variants.{Token}
 use Rattle.lexer.specs.Values.{Lexes}
 
-pub moves : (s : List ℕ) (at k start n : ℕ) (next : Cursor) → Lexes s at (Token k start n next)
+pub moves : (s : List ℕ) (at k start n : ℕ) (next : Cursor) (d u : ℕ) → Lexes s at (Token k start n next d u)
     → (at < next .at) × (next .at ≤ length s)
 unfolding Lexes
-moves s at k start n next h =
-    let t = told s at k start n (next .at) h in
+moves s at k start n next d u h =
+    let t = told s at k start n (next .at) d u h in
     let g = t .goes in
     let p = t .some in
     (omega arith, t .inside)

@@ -54,7 +54,7 @@ byte-in t b (x ∷ l) h e = rw (eqb-true x b h) e
 -- an operator of one byte that nothing makes longer, at the byte of an arm
 pub key-lexed : (k b : ℕ) (s : List ℕ) (at : ℕ) → At (byte b) at s → b ≡ k
     → isColon (k ∷ []) ≡ false → isOperator (k ∷ []) operators ≡ true → follow (k ∷ []) ≡ none
-    → (r : Lexed) → r ≡ Token (kindIn operators (k ∷ [])) at 1 (cursor (at + 1)) → Lexes s at r
+    → (r : Lexed) → r ≡ Token (kindIn operators (k ∷ [])) at 1 (cursor (at + 1)) 0 0 → Lexes s at r
 key-lexed k b s at h e n o f r q =
     let seen = key-seen k b (drop at s) h e in
     let d : 1 ≡ at + 1 - at = omega arith in

@@ -1,14 +1,15 @@
 -- What all numbers share: spans, and the two kinds. Assumes nothing.
 use Prim.Native.Nat.{ℕ, _+_, _-_, max}
 use native.Mathlib.Omega.{arith}
-use mathlib.Core.Path.{_≡_, refl}
+use mathlib.Core.Path.{_≡_, refl, ap}
 use mathlib.Core.List.{List}
 use Rattle.keywords.specs.Kinds.{kind}
-use Rattle.grammar.specs.Form.{Set, D, S, no, _or_, _except_}
+use Rattle.grammar.specs.Form.{Set, D, S, no, _or_, _except_, oneOf}
 use Rattle.grammar.specs.Classes.{rules}
-use Rattle.grammar.specs.Answers.{refusal, afterLast, init, answer}
+use Rattle.grammar.specs.Answers.{token, refusal, afterLast, init, count, sum, integerDigits, numeral, answer}
 use Rattle.grammar.specs.Runs.{char, part}
 use Rattle.grammar.proofs.States.{ruleAt}
+use Rattle.grammar.proofs.Places.{Counted}
 use Rattle.grammar.proofs.RulePlaces.{integerRule, floatRule, underscoreRule}
 use Rattle.grammar.proofs.Reading.{Ends, ends-long}
 use Rattle.lexer.specs.declared.lexed.Refusal.{Refusal}
@@ -17,7 +18,7 @@ use Rattle.lexer.specs.declared.lexed.Lexed.{Lexed}
 use Rattle.lexer.specs.declared.lexed.Lexed.the-variants.{Token, Refused}
 use Rattle.lexer.specs.Eaten.{cursor}
 use Rattle.lexer.specs.Values.{numberOf, Lexes}
-use Rattle.lexer.proofs.AnswerLaws.{lexes, token-lexes}
+use Rattle.lexer.proofs.AnswerLaws.{lexes}
 use Rattle.lexer.proofs.SpanLaws.{init-part}
 use Rattle.lexer.proofs.DigitLaws.{Stuck}
 
@@ -41,10 +42,21 @@ module _ {s : List ℕ} {from i g e : ℕ} (r : Lexed) (f : r ≡ Refused BadNum
 abbrev pub wordStart : Set
 wordStart = S except (char "_" or char "e" or char "E")
 
-pub integer-lexed : {s : List ℕ} {from at : ℕ} → Ends s from at integerRule → (r : Lexed) → r ≡ Token (kind "TK_INTEGER") from (at - from) (cursor at) → Lexes s from r
-unfolding rules answer
-integer-lexed e r f = token-lexes e (kind "TK_INTEGER") r refl f
+-- a number's token
+module _ {s : List ℕ} {from at n u : ℕ} (r : Lexed) where
+  number-lexes : {k : ℕ} (e : Ends s from at k) (kind d : ℕ) → answer (ruleAt rules k .class) from (part s from at) ≡ numeral kind from (part s from at) d
+      → d ≡ n → count (oneOf "_") (part s from at) ≡ u → r ≡ Token kind from (at - from) (cursor at) (sum n) (sum u) → Lexes s from r
+  number-lexes e kind d p x y q =
+      let o = e .ordered in
+      let l = ends-long e in
+      lexes e r _ p (rw (q, l, x, y) (ap (λ (m : ℕ). token kind from (at - from) m (sum n) (sum u)) (omega arith)))
 
-pub float-lexed : {s : List ℕ} {from at : ℕ} → Ends s from at floatRule → (r : Lexed) → r ≡ Token (kind "TK_FLOAT") from (at - from) (cursor at) → Lexes s from r
-unfolding rules answer
-float-lexed e r f = token-lexes e (kind "TK_FLOAT") r refl f
+  pub float-lexed : Ends s from at floatRule → Counted D s from at n u → r ≡ Token (kind "TK_FLOAT") from (at - from) (cursor at) (sum n) (sum u) → Lexes s from r
+  unfolding rules answer
+  float-lexed e c f = number-lexes e (kind "TK_FLOAT") _ refl (c .digits) (c .underscores) f
+
+  -- an integer, whose digits are D or, behind `0x`, H
+  pub integer-lexed : Ends s from at integerRule → integerDigits (part s from at) ≡ n → count (oneOf "_") (part s from at) ≡ u
+      → r ≡ Token (kind "TK_INTEGER") from (at - from) (cursor at) (sum n) (sum u) → Lexes s from r
+  unfolding rules answer
+  integer-lexed e x y f = number-lexes e (kind "TK_INTEGER") _ refl x y f

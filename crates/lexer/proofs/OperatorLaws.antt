@@ -41,7 +41,7 @@ module _ (s : List ℕ) (from d e : ℕ) (h : At blank from s) (f : d ≡ moved 
       let q = reads-while p blank refl g in
       reads-stop q blank blankRunRule refl refl (over-stops blank s d e g)
 
-  pub blanks-lexed : (r : Lexed) → r ≡ Token (kind "TK_NONE") from (e - from) (cursor e) → Lexes s from r
+  pub blanks-lexed : (r : Lexed) → r ≡ Token (kind "TK_NONE") from (e - from) (cursor e) 0 0 → Lexes s from r
   unfolding rules answer
   blanks-lexed r q = token-lexes blanks-end (kind "TK_NONE") r refl q
 
@@ -107,19 +107,19 @@ module _ {s : List ℕ} {from at : ℕ} {w : List ℕ} (p : Spelled s from at w)
       let h = and-left (a && g) (isOne operatorRule (met q)) f in
       reads-stop (spelled-reads p (and-left a g h)) (follow w) operatorRule (and-right a g h) (one-is operatorRule (met q) (and-right (a && g) (isOne operatorRule (met q)) f)) m
 
-  pub operator-lexed : (r : Lexed) → r ≡ Token (kindIn operators w) from (at - from) (cursor at) → Lexes s from r
+  pub operator-lexed : (r : Lexed) → r ≡ Token (kindIn operators w) from (at - from) (cursor at) 0 0 → Lexes s from r
   unfolding rules answer
   operator-lexed r e = token-lexes operator-ends (kindIn operators w) r (rw (spelled-part p)) e
 
 -- of one byte, and of two that nothing makes longer
 module _ (b : ℕ) (s : List ℕ) (from : ℕ) (h : At (byte b) from s) {at : ℕ} (f : at ≡ moved from s) where
   pub one-lexed : isColon (b ∷ []) ≡ false → isOperator (b ∷ []) operators ≡ true → sees (follow (b ∷ [])) (drop at s) ≡ false
-      → (r : Lexed) → r ≡ Token (kindIn operators (b ∷ [])) from (at - from) (cursor at) → Lexes s from r
+      → (r : Lexed) → r ≡ Token (kindIn operators (b ∷ [])) from (at - from) (cursor at) 0 0 → Lexes s from r
   one-lexed n o m r q = operator-lexed (spelled-first b s from h f) n o m r q
 
   pub two-lexed : (d : ℕ) → sees (byte d) (drop at s) ≡ true → {e : ℕ} → e ≡ moved at s
       → isColon (b ∷ d ∷ []) ≡ false → isOperator (b ∷ d ∷ []) operators ≡ true → follow (b ∷ d ∷ []) ≡ none
-      → (r : Lexed) → r ≡ Token (kindIn operators (b ∷ d ∷ [])) from (e - from) (cursor e) → Lexes s from r
+      → (r : Lexed) → r ≡ Token (kindIn operators (b ∷ d ∷ [])) from (e - from) (cursor e) 0 0 → Lexes s from r
   two-lexed d i g n o z r q = operator-lexed (spelled-more (spelled-first b s from h f) d i g) n o (rw z (misses-none _)) r q
 
 -- `--` to and with the newline, or to the end
@@ -136,7 +136,7 @@ module _ {s : List ℕ} {from at : ℕ} (p : Spelled s from at (bytes "--")) {st
   unfolding behind rules operators isDigit isHexdigit isIdentifierStart isIdentifierContinue isBlank
   line-open h = reads-end in-line openLineRule refl h
 
-  pub line-lexed : (r : Lexed) → r ≡ Token (kind "TK_NONE") from (e - from) (cursor e) → Lexes s from r
+  pub line-lexed : (r : Lexed) → r ≡ Token (kind "TK_NONE") from (e - from) (cursor e) 0 0 → Lexes s from r
   unfolding rules answer
   line-lexed r q =
       split (sees (char "\n") (drop stop s))
@@ -167,7 +167,7 @@ module _ {s : List ℕ} {from at : ℕ} (p : Reads s from at (behind "/**")) whe
   unfolding behind rules operators isDigit isHexdigit isIdentifierStart isIdentifierContinue isBlank
   comment-more h = reads-join p (behind "/*") (no (char "/")) refl refl (inside-misses (no (no (char "/"))) (char "/") refl _ h)
 
-pub comment-lexed : {s : List ℕ} {from at : ℕ} → Ends s from at closedBlockRule ⊎ Ends s from at openBlockRule → (r : Lexed) → r ≡ Token (kind "TK_NONE") from (at - from) (cursor at)
+pub comment-lexed : {s : List ℕ} {from at : ℕ} → Ends s from at closedBlockRule ⊎ Ends s from at openBlockRule → (r : Lexed) → r ≡ Token (kind "TK_NONE") from (at - from) (cursor at) 0 0
     → Lexes s from r
 unfolding rules answer
 comment-lexed (inl e) r q = token-lexes e (kind "TK_NONE") r refl q

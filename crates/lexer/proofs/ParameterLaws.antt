@@ -25,7 +25,7 @@ use Rattle.lexer.proofs.AnswerLaws.{token-lexes, whole-lexes}
 
 -- the answers
 module _ {s : List ℕ} {from at : ℕ} (r : Lexed) where
-  pub variable-lexed : Ends s from at parameterRule → r ≡ Token (kind "TK_VARIABLE") from (at - from) (cursor at) → Lexes s from r
+  pub variable-lexed : Ends s from at parameterRule → r ≡ Token (kind "TK_VARIABLE") from (at - from) (cursor at) 0 0 → Lexes s from r
   unfolding rules answer
   variable-lexed e q = token-lexes e (kind "TK_VARIABLE") r refl q
 
@@ -64,7 +64,7 @@ module _ {s : List ℕ} {from at : ℕ} (p : Spelled s from at (bytes ":")) wher
   unfolding behind rules operators isDigit isHexdigit isIdentifierStart isIdentifierContinue isBlank
   colon-ends h n = reads-no-pair (spelled-reads p refl) (behind "$:") S operatorRule refl refl refl h n
 
-  pub colon-lexed : sees S (drop at s) ≡ false → seesPair (drop at s) ≡ false → (r : Lexed) → r ≡ Token (kind "TK_COLON") from (at - from) (cursor at) → Lexes s from r
+  pub colon-lexed : sees S (drop at s) ≡ false → seesPair (drop at s) ≡ false → (r : Lexed) → r ≡ Token (kind "TK_COLON") from (at - from) (cursor at) 0 0 → Lexes s from r
   unfolding rules answer operators
   colon-lexed h n r q = token-lexes (colon-ends h n) (kind "TK_COLON") r (rw (spelled-part p)) q
 

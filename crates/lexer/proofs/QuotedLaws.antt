@@ -97,7 +97,7 @@ unfolding rules answer
 open-lexed e r f = whole-lexes e UnterminatedLiteral r refl f
 
 pub quoted-lexed : (q : ℕ) {s : List ℕ} {from at : ℕ} → Ends s from at (closed q) → (k : ℕ) → k ≡ quoteKind q → (r : Lexed)
-    → r ≡ Token k from (at - from) (cursor at)
+    → r ≡ Token k from (at - from) (cursor at) 0 0
     → Lexes s from r
 unfolding rules answer
 quoted-lexed q =
@@ -144,6 +144,6 @@ module _ {s : List ℕ} {from at : ℕ} (r : Lexed) where
   unfolding rules answer
   blob-odd-lexed e f = whole-lexes e UnrecognizedToken r refl f
 
-  pub blob-lexed : Ends s from at blobRule → r ≡ Token (kind "TK_BLOB") from (at - from) (cursor at) → Lexes s from r
+  pub blob-lexed : Ends s from at blobRule → r ≡ Token (kind "TK_BLOB") from (at - from) (cursor at) 0 0 → Lexes s from r
   unfolding rules answer
   blob-lexed e f = token-lexes e (kind "TK_BLOB") r refl f

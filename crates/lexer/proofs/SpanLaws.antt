@@ -19,7 +19,7 @@ module _ (s : List ℕ) (from at : ℕ) (o : from ≤ at) where
   part-long : at ≤ length s → length (part s from at) ≡ at - from
   part-long h = length-take-le (at - from) (drop from s) (omega (arith, length-drop from s))
 
-  part-snoc : at < length s → part s from (at + 1) ≡ part s from at ++ getD s at 0 ∷ []
+  pub part-snoc : at < length s → part s from (at + 1) ≡ part s from at ++ getD s at 0 ∷ []
   part-snoc h =
       let n : at + 1 - from ≡ suc (at - from) = omega arith in
       let m : from + (at - from) ≡ at = omega arith in

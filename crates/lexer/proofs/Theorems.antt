@@ -12,7 +12,7 @@ use Rattle.keywords.specs.Text.{bytes}
 use Rattle.grammar.specs.Classes.{rules}
 use Rattle.grammar.specs.Answers.{Answer, token, end, refusal, isRefusal}
 use Rattle.grammar.specs.Longest.{Every, Gives}
-use Rattle.grammar.specs.Texts.{Row, offset, Walks, tk, table}
+use Rattle.grammar.specs.Texts.{Row, offset, Walks, num, table}
 use Rattle.grammar.proofs.Unique.{gives-unique}
 use Rattle.grammar.proofs.TextLaws.{texts}
 use Rattle.lexer.specs.declared.lexed.Refusal.{Refusal}
@@ -42,12 +42,12 @@ refusal-back ExpectedEqualsSign = refl
 refusal-back OffsetPastEnd = refl
 
 abbrev lexedOf : Answer → Lexed
-lexedOf (token kind start length next) = Token kind start length (cursor next)
+lexedOf (token kind start length next digits underscores) = Token kind start length (cursor next) digits underscores
 lexedOf (end at) = End (cursor at)
 lexedOf (refusal number start length at) = Refused (refusalOf number) start length (cursor at)
 
 lexed-back : (r : Lexed) → lexedOf (valuesOf r) ≡ r
-lexed-back (Token kind start length next) = refl
+lexed-back (Token kind start length next digits underscores) = refl
 lexed-back (End next) = refl
 lexed-back (Refused why start length next) = ap (λ (w : Refusal). Refused w start length next) (refusal-back why)
 
@@ -76,7 +76,7 @@ table-lexed = every-row table texts
 
 -- a token is of this kind
 abbrev pub OfKind : ℕ → Answer → Type 0
-OfKind k (token kind start length next) = kind ≡ k
+OfKind k (token kind start length next digits underscores) = kind ≡ k
 OfKind k (end at) = Unit {0}
 OfKind k (refusal number start length at) = Unit {0}
 
@@ -86,13 +86,13 @@ module _ (f : List ℕ → ℕ → Lexed) (meets : (s : List ℕ) (at : ℕ) →
   unfolding Lexes
   answers s at a g = gives-unique rules s at (valuesOf (f s at)) a (meets s at) g
 
-  float-first : valuesOf (f (bytes "1.a") 0) ≡ tk "TK_FLOAT" 0 2
+  float-first : valuesOf (f (bytes "1.a") 0) ≡ num "TK_FLOAT" 0 2 1 0
   unfolding table
-  float-first = answers (bytes "1.a") 0 (tk "TK_FLOAT" 0 2) (texts .1 .0 .0)
+  float-first = answers (bytes "1.a") 0 (num "TK_FLOAT" 0 2 1 0) (texts .1 .0 .0)
 
-  integer-first : valuesOf (f (bytes "1_2") 0) ≡ tk "TK_INTEGER" 0 3
+  integer-first : valuesOf (f (bytes "1_2") 0) ≡ num "TK_INTEGER" 0 3 2 1
   unfolding table
-  integer-first = answers (bytes "1_2") 0 (tk "TK_INTEGER" 0 3) (texts .1 .1 .1 .1 .0 .0)
+  integer-first = answers (bytes "1_2") 0 (num "TK_INTEGER" 0 3 2 1) (texts .1 .1 .1 .1 .0 .0)
 
   -- Not every answer below the end is a refusal.
   pub not-all-refused : ((s : List ℕ) (at : ℕ) → at < length s → isRefusal (valuesOf (f s at)) ≡ true) → ⊥

@@ -24,7 +24,7 @@ numberOf OffsetPastEnd = refusalNumber "OffsetPastEnd"
 
 -- an answer's values; the offset is where its cursor stands
 abbrev pub valuesOf : Lexed → Answer
-valuesOf (Token kind start length next) = token kind start length (next .at)
+valuesOf (Token kind start length next digits underscores) = token kind start length (next .at) digits underscores
 valuesOf (End next) = end (next .at)
 valuesOf (Refused why start length next) = refusal (numberOf why) start length (next .at)
 

@@ -9,6 +9,7 @@ ghost use mathlib.Core.Path.{_≡_};
 ghost use lib.ListN.{drop};
 ghost use Rattle.grammar.specs.Form.{D, S, C, blank, byte, no, _or_};
 ghost use Rattle.grammar.specs.Runs.{char, sees, seesPair, moved, optional, over};
+ghost use Rattle.grammar.specs.Answers.{isHex};
 ghost use Rattle.lexer.specs.Eaten.{head, hexdigit, past};
 
 pub struct Cursor {
@@ -110,6 +111,16 @@ impl Cursor {
     {
         if self.sees(text, b':') {
             return self.eat(text).sees(text, b':');
+        }
+        false
+    }
+
+    // `0x` or `0X`.
+    pub(crate) fn sees_hex(self, text: &[u8]) -> bool
+        ensures { λ r. ⌜ r ≡ isHex (drop (self .at) (now (text .entry))) ⌝ }
+    {
+        if self.sees(text, b'0') {
+            return self.eat(text).sees_either(text, b'x', b'X');
         }
         false
     }

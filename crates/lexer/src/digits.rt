@@ -1,25 +1,39 @@
 // Runs of digits, in groups parted by single underscores.
 use crate::cursor::Cursor;
 ghost use mathlib.Core.Path.{_≡_};
-ghost use lib.ListN.{drop};
-ghost use Rattle.grammar.specs.Form.{D};
-ghost use Rattle.lexer.specs.Eaten.{groups, hexGroups};
+ghost use Prim.Native.Nat.{_+_, _≤_};
+ghost use Rattle.lexer.specs.Eaten.{digitRun, hexRun};
+
+// A place in a number, and how many digits and underscores the number has before it.
+pub(crate) struct Tally {
+    pub(crate) cursor: Cursor,
+    pub(crate) digits: usize,
+    pub(crate) underscores: usize,
+}
 
 // Read: behind the run. Bad: a span, from where the last group starts.
 pub(crate) enum Digits {
-    Read(Cursor),
+    Read(Tally),
     Bad(Cursor, Cursor),
 }
 
-impl Cursor {
+impl Tally {
     pub(crate) fn eat_while_number_digit(self, text: &[u8]) -> Digits
-        ensures { λ r. ⌜ r ≡ groups D (self .at) (self .at) (drop (self .at) (now (text .entry))) ⌝ }
+        requires { ⌜ self .digits + self .underscores ≤ self .cursor .at ⌝ }
+        ensures { λ r. ⌜ r ≡ digitRun self (now (text .entry)) ⌝ }
     {
-        let mut start = self;
+        let mut start = self.cursor;
+        let mut digits = self.digits;
+        let mut underscores = self.underscores;
         loop {
             let end = start.eat_while_digit(text);
+            digits += end.at - start.at;
             if !end.sees(text, b'_') {
-                return Digits::Read(end);
+                return Digits::Read(Tally {
+                    cursor: end,
+                    digits,
+                    underscores,
+                });
             }
             // no test for a digit before the underscore: the Rust's, made behind it, never holds (proofs/MissingDigit.antt)
             let next = end.eat(text);
@@ -27,18 +41,27 @@ impl Cursor {
                 // after the underscore, there is no digit
                 return Digits::Bad(start, next);
             }
+            underscores += 1;
             start = next;
         }
     }
 
     pub(crate) fn eat_while_number_hexdigit(self, text: &[u8]) -> Digits
-        ensures { λ r. ⌜ r ≡ hexGroups (self .at) (drop (self .at) (now (text .entry))) ⌝ }
+        requires { ⌜ self .digits + self .underscores ≤ self .cursor .at ⌝ }
+        ensures { λ r. ⌜ r ≡ hexRun self (now (text .entry)) ⌝ }
     {
-        let mut start = self;
+        let mut start = self.cursor;
+        let mut digits = self.digits;
+        let mut underscores = self.underscores;
         loop {
             let end = start.eat_while_hexdigit(text);
+            digits += end.at - start.at;
             if !end.sees(text, b'_') {
-                return Digits::Read(end);
+                return Digits::Read(Tally {
+                    cursor: end,
+                    digits,
+                    underscores,
+                });
             }
             if start.at == end.at {
                 // before the underscore, there was no digit
@@ -49,6 +72,7 @@ impl Cursor {
                 // after the underscore, there is no digit
                 return Digits::Bad(start, next);
             }
+            underscores += 1;
             start = next;
         }
     }

@@ -1,8 +1,10 @@
 // Numbers.
 use crate::cursor::Cursor;
 use crate::digits::Digits;
+use crate::digits::Tally;
 use crate::lexed::Lexed;
 use crate::lexed::Refusal;
+use crate::lexed::number;
 use crate::lexed::refused;
 use crate::lexed::token;
 use keywords::kinds::TK_DOT;
@@ -10,7 +12,7 @@ use keywords::kinds::TK_FLOAT;
 use keywords::kinds::TK_INTEGER;
 ghost use Rattle.grammar.specs.Form.{D};
 ghost use Rattle.grammar.specs.Runs.{char};
-ghost use Rattle.grammar.proofs.Places.{At, Decimal, Dot, Fraction, Exponent, Hex};
+ghost use Rattle.grammar.proofs.Places.{At, Counted, Decimal, Dot, Fraction, Exponent, Hex};
 ghost use Rattle.lexer.specs.Values.{Lexes};
 
 // A dot with no digits before it.
@@ -20,61 +22,83 @@ pub(crate) fn eat_dot_or_frac(text: &[u8], start: Cursor) -> Lexed
 {
     let rest = start.eat(text);
     if rest.sees_digit(text) {
-        return eat_frac(text, start, rest, start);
+        let at = Tally {
+            cursor: rest,
+            digits: 0,
+            underscores: 0,
+        };
+        return eat_frac(text, start, at, start);
     }
     token(TK_DOT, start, rest)
 }
 
 // A dot behind a number's digits: here `e` may follow at once, as in `5.e-1`.
-fn eat_dot_after_digits(text: &[u8], start: Cursor, at: Cursor) -> Lexed
-    requires { ⌜ Dot (now text) (start .at) (at .at) ⌝ }
+fn eat_dot_after_digits(text: &[u8], start: Cursor, digits: Tally) -> Lexed
+    requires { ⌜ Dot (now text) (start .at) (digits .cursor .at) ⌝ }
+    requires { ⌜ Counted D (now text) (start .at) (digits .cursor .at) (digits .digits) (digits .underscores) ⌝ }
     ensures { λ r. ⌜ Lexes (now (text .entry)) (start .at) r ⌝ }
 {
-    let rest = at.eat(text);
+    let dot = digits.cursor;
+    let rest = dot.eat(text);
+    let at = Tally {
+        cursor: rest,
+        digits: digits.digits,
+        underscores: digits.underscores,
+    };
     if rest.sees_digit(text) {
-        return eat_frac(text, start, rest, at);
+        return eat_frac(text, start, at, dot);
     }
     if rest.sees_either(text, b'e', b'E') {
-        return eat_expo(text, start, rest);
+        return eat_expo(text, start, at);
     }
-    token(TK_FLOAT, start, rest)
+    number(TK_FLOAT, start, at)
 }
 
 // The digits behind the dot of a number.
-fn eat_frac(text: &[u8], start: Cursor, at: Cursor, dot: Cursor) -> Lexed
-    requires { ⌜ Fraction (now text) (start .at) (at .at) (dot .at) ⌝ }
+fn eat_frac(text: &[u8], start: Cursor, at: Tally, dot: Cursor) -> Lexed
+    requires { ⌜ Fraction (now text) (start .at) (at .cursor .at) (dot .at) ⌝ }
+    requires { ⌜ Counted D (now text) (start .at) (at .cursor .at) (at .digits) (at .underscores) ⌝ }
     ensures { λ r. ⌜ Lexes (now (text .entry)) (start .at) r ⌝ }
 {
     match at.eat_while_number_digit(text) {
         Digits::Bad(from, to) => refused(Refusal::BadNumber, from, to, start),
-        Digits::Read(end) => {
+        Digits::Read(digits) => {
+            let end = digits.cursor;
             if end.sees_either(text, b'e', b'E') {
-                return eat_expo(text, start, end);
+                return eat_expo(text, start, digits);
             }
             if end.sees_start(text) {
                 return refused(Refusal::BadFractionalPart, dot, end, start);
             }
-            token(TK_FLOAT, start, end)
+            number(TK_FLOAT, start, digits)
         }
     }
 }
 
 // At the `e` of a number.
-fn eat_expo(text: &[u8], start: Cursor, at: Cursor) -> Lexed
-    requires { ⌜ Exponent (now text) (start .at) (at .at) ⌝ }
+fn eat_expo(text: &[u8], start: Cursor, digits: Tally) -> Lexed
+    requires { ⌜ Exponent (now text) (start .at) (digits .cursor .at) ⌝ }
+    requires { ⌜ Counted D (now text) (start .at) (digits .cursor .at) (digits .digits) (digits .underscores) ⌝ }
     ensures { λ r. ⌜ Lexes (now (text .entry)) (start .at) r ⌝ }
 {
-    let digits = at.eat(text).eat_either(text, b'+', b'-');
-    match digits.eat_while_number_digit(text) {
+    let e = digits.cursor;
+    let first = e.eat(text).eat_either(text, b'+', b'-');
+    let at = Tally {
+        cursor: first,
+        digits: digits.digits,
+        underscores: digits.underscores,
+    };
+    match at.eat_while_number_digit(text) {
         Digits::Bad(from, to) => refused(Refusal::BadNumber, from, to, start),
-        Digits::Read(end) => {
-            if digits.at == end.at {
-                return refused(Refusal::BadExponentPart, at, end, start);
+        Digits::Read(all) => {
+            let end = all.cursor;
+            if first.at == end.at {
+                return refused(Refusal::BadExponentPart, e, end, start);
             }
             if end.sees_start(text) {
-                return refused(Refusal::BadExponentPart, at, end, start);
+                return refused(Refusal::BadExponentPart, e, end, start);
             }
-            token(TK_FLOAT, start, end)
+            number(TK_FLOAT, start, all)
         }
     }
 }
@@ -84,13 +108,10 @@ pub(crate) fn eat_number(text: &[u8], start: Cursor) -> Lexed
     ensures { λ r. ⌜ Lexes (now (text .entry)) (start .at) r ⌝ }
 {
     let rest = start.eat(text);
-    if !start.sees(text, b'0') {
-        return eat_decimal(text, start, rest);
+    if start.sees_hex(text) {
+        return eat_hex(text, start, rest.eat(text));
     }
-    if !rest.sees_either(text, b'x', b'X') {
-        return eat_decimal(text, start, rest);
-    }
-    eat_hex(text, start, rest.eat(text))
+    eat_decimal(text, start, rest)
 }
 
 // Behind `0x`.
@@ -98,16 +119,22 @@ fn eat_hex(text: &[u8], start: Cursor, at: Cursor) -> Lexed
     requires { ⌜ Hex (now text) (start .at) (at .at) ⌝ }
     ensures { λ r. ⌜ Lexes (now (text .entry)) (start .at) r ⌝ }
 {
-    match at.eat_while_number_hexdigit(text) {
+    let none = Tally {
+        cursor: at,
+        digits: 0,
+        underscores: 0,
+    };
+    match none.eat_while_number_hexdigit(text) {
         Digits::Bad(from, to) => refused(Refusal::BadNumber, from, to, start),
-        Digits::Read(end) => {
+        Digits::Read(digits) => {
+            let end = digits.cursor;
             if at.at == end.at {
                 return refused(Refusal::MalformedHexInteger, start, end, start);
             }
             if end.sees_start(text) {
                 return refused(Refusal::BadNumber, start, end, start);
             }
-            token(TK_INTEGER, start, end)
+            number(TK_INTEGER, start, digits)
         }
     }
 }
@@ -117,19 +144,25 @@ fn eat_decimal(text: &[u8], start: Cursor, at: Cursor) -> Lexed
     requires { ⌜ Decimal (now text) (start .at) (at .at) ⌝ }
     ensures { λ r. ⌜ Lexes (now (text .entry)) (start .at) r ⌝ }
 {
-    match at.eat_while_number_digit(text) {
+    let first = Tally {
+        cursor: at,
+        digits: 1,
+        underscores: 0,
+    };
+    match first.eat_while_number_digit(text) {
         Digits::Bad(from, to) => refused(Refusal::BadNumber, from, to, start),
-        Digits::Read(end) => {
+        Digits::Read(digits) => {
+            let end = digits.cursor;
             if end.sees(text, b'.') {
-                return eat_dot_after_digits(text, start, end);
+                return eat_dot_after_digits(text, start, digits);
             }
             if end.sees_either(text, b'e', b'E') {
-                return eat_expo(text, start, end);
+                return eat_expo(text, start, digits);
             }
             if end.sees_start(text) {
                 return refused(Refusal::BadNumber, start, end, start);
             }
-            token(TK_INTEGER, start, end)
+            number(TK_INTEGER, start, digits)
         }
     }
 }

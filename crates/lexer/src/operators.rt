@@ -35,7 +35,7 @@ ghost use Rattle.lexer.specs.Values.{Lexes};
 
 pub(crate) fn eat_one_token(text: &[u8], start: Cursor, kind: u32) -> Lexed
     requires { ⌜ start .at < length (now text) ⌝ }
-    ensures { λ r. ⌜ r ≡ Lexed.Token kind (start .at) 1 (cursor (start .at + 1)) ⌝ }
+    ensures { λ r. ⌜ r ≡ Lexed.Token kind (start .at) 1 (cursor (start .at + 1)) 0 0 ⌝ }
 {
     token(kind, start, start.eat(text))
 }

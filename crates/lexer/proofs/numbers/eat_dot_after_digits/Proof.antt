@@ -1,10 +1,12 @@
 -- `lexer::numbers::eat_dot_after_digits` meets its contract. Assumes nothing.
 use mathlib.Core.Path.{_∙_, sym}
 use borrow.Author.Needs.{needs}
+use Rattle.grammar.specs.Form.{D}
 use Rattle.grammar.proofs.RulePlaces.{floatRule}
 use Rattle.grammar.proofs.Reading.{Ends}
+use Rattle.grammar.proofs.Places.{Counted}
 use Rattle.lexer.proofs.NumberLaws.{float-lexed}
-use Rattle.lexer.proofs.FractionLaws.{dot-e, dot-ends, dot-fraction}
+use Rattle.lexer.proofs.FractionLaws.{dot-counted, dot-e, dot-ends, dot-fraction}
 use Rattle.lexer.proofs.numbers.eat_dot_after_digits.Statement.{statement}
 use Rattle.lexer.proofs.numbers.eat_dot_after_digits.Tie as tie
 
@@ -14,13 +16,18 @@ eat-requires c κs = search needs
 sees-digit-requires : tie.Need-sees-digit-requires
 sees-digit-requires c κs = search needs
 
+-- behind the dot, which is no digit and no `_`
+abbrev entry : tie.After-eat → tie.Start
+entry c = c .before .before .before
+
+counted : (c : tie.After-eat)
+    → Counted D (entry c .args .text .now) (entry c .args .start .at) (c .eat .result .at) (entry c .args .digits .digits) (entry c .args .digits .underscores)
+counted c = dot-counted (entry c .pre .0) (c .eat .ensures) (entry c .pre .1)
+
 eat-frac-requires : tie.Need-eat-frac-requires
 eat-frac-requires c κs =
-    let if1 = c .if1 in
-    let sees-digit = c .before .sees-digit in
-    let eat = c .before .before .eat in
-    let pre = c .before .before .before .before .pre in
-    dot-fraction pre (eat .ensures) (sym (sees-digit .ensures) ∙ if1 .taken)
+    let there = c .before .before in
+    (dot-fraction (entry there .pre .0) (there .eat .ensures) (sym (c .before .sees-digit .ensures) ∙ c .if1 .taken), counted there)
 
 returns : tie.Need-returns
 returns c = c .eat-frac .ensures
@@ -30,32 +37,27 @@ sees-either-requires c κs = search needs
 
 eat-expo-requires : tie.Need-eat-expo-requires
 eat-expo-requires c κs =
-    let if2 = c .if2 in
-    let sees-either = c .before .sees-either in
-    let eat = c .before .before .before .before .eat in
-    let pre = c .before .before .before .before .before .before .pre in
-    dot-e pre (eat .ensures) (sym (sees-either .ensures) ∙ if2 .taken)
+    let there = c .before .before .before .before in
+    (dot-e (entry there .pre .0) (there .eat .ensures) (sym (c .before .sees-either .ensures) ∙ c .if2 .taken), counted there)
 
 returns-2 : tie.Need-returns-2
 returns-2 c = c .eat-expo .ensures
 
 -- the lexeme ends there: so the span is in order, and it is what the text gives
-plain : (c : tie.Else2) → Ends (c .before .before .before .before .before .before .args .text .now)
-    (c .before .before .before .before .before .before .args .start .at) (c .before .before .before .before .eat .result .at) floatRule
-plain c =
-    let if2 = c .if2 in
-    let sees-either = c .before .sees-either in
-    let if1 = c .before .before .if1 in
-    let sees-digit = c .before .before .before .sees-digit in
-    let eat = c .before .before .before .before .eat in
-    let pre = c .before .before .before .before .before .before .pre in
-    dot-ends pre (eat .ensures) (sym (sees-digit .ensures) ∙ if1 .left) (sym (sees-either .ensures) ∙ if2 .left)
+abbrev behind : tie.Else2 → tie.After-eat
+behind c = c .before .before .before .before
 
-token-requires : tie.Need-token-requires
-token-requires c κs = plain c .ordered
+plain : (c : tie.Else2) → Ends (entry (behind c) .args .text .now) (entry (behind c) .args .start .at) (behind c .eat .result .at) floatRule
+plain c =
+    let there = behind c in
+    let no-digit = sym (c .before .before .before .sees-digit .ensures) ∙ c .before .before .if1 .left in
+    dot-ends (entry there .pre .0) (there .eat .ensures) no-digit (sym (c .before .sees-either .ensures) ∙ c .if2 .left)
+
+number-requires : tie.Need-number-requires
+number-requires c κs = plain c .ordered
 
 returns-3 : tie.Need-returns-3
-returns-3 c = float-lexed (plain (c .before)) _ (c .token .ensures)
+returns-3 c = float-lexed _ (plain (c .before)) (counted (behind (c .before))) (c .number .ensures)
 
 pub eat-dot-after-digits-spec : {M : Type 1} → statement M
 eat-dot-after-digits-spec =
@@ -68,5 +70,5 @@ eat-dot-after-digits-spec =
     sees-either-requires
     eat-expo-requires
     returns-2
-    token-requires
+    number-requires
     returns-3)

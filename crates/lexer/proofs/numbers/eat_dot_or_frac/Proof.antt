@@ -3,7 +3,7 @@ use mathlib.Core.Path.{_∙_, refl, sym}
 use borrow.Author.Needs.{needs}
 use Rattle.grammar.specs.Classes.{operators}
 use Rattle.grammar.proofs.Seen.{moved-up}
-use Rattle.lexer.proofs.FractionLaws.{first-fraction}
+use Rattle.lexer.proofs.FractionLaws.{first-counted, first-fraction}
 use Rattle.lexer.proofs.OperatorLaws.{follow, isOperator, one-lexed}
 use Rattle.lexer.proofs.numbers.eat_dot_or_frac.Statement.{statement}
 use Rattle.lexer.proofs.numbers.eat_dot_or_frac.Tie as tie
@@ -20,7 +20,7 @@ eat-frac-requires c κs =
     let sees-digit = c .before .sees-digit in
     let eat = c .before .before .eat in
     let pre = c .before .before .before .before .pre in
-    first-fraction _ _ _ pre (eat .ensures) (sym (sees-digit .ensures) ∙ if1 .taken)
+    (first-fraction _ _ _ pre (eat .ensures) (sym (sees-digit .ensures) ∙ if1 .taken), first-counted _ _ _ pre (eat .ensures))
 
 returns : tie.Need-returns
 returns c = c .eat-frac .ensures
