@@ -59,14 +59,14 @@ module _ {s : List ℕ} {from at : ℕ} {any : Bool} (v : Uncut s from at any) w
   pub ahead : from ≤ at
   ahead = passes-ahead NoSemi s [] from (v .passed) at (v .passes)
 
-  pub onward : (k start m : ℕ) (next : Cursor) → Lexes s at (Token k start m next) → (k ≡ kind "TK_SEMI" → ⊥)
+  pub onward : (k start m : ℕ) (next : Cursor) (d u : ℕ) → Lexes s at (Token k start m next d u) → (k ≡ kind "TK_SEMI" → ⊥)
       → (more : Bool) → more ≡ notNone k || any → Uncut s from (next .at) more
   unfolding Lexes
-  onward k start m next h other more e =
-      let t = legal k start m in
+  onward k start m next d u h other more e =
+      let t = legal k start m d u in
       record {
         passed = v .passed ++ (t ∷ []);
-        passes = token-passes NoSemi s from (v .passed) at k start m (next .at) (v .passes) h other;
+        passes = token-passes NoSemi s from (v .passed) at k start m (next .at) d u (v .passes) h other;
         has = e ∙ ap (λ (b : Bool). notNone k || b) (v .has) ∙ sym (has-one-more (v .passed) t);
       }
 
@@ -79,11 +79,11 @@ module _ {s : List ℕ} {from at : ℕ} {any : Bool} (v : Uncut s from at any) w
         answers = ap (λ (b : Bool). cutAnswer from b there) (v .has);
       }
 
-  pub semi-cuts : (k start m : ℕ) (next : Cursor) → Lexes s at (Token k start m next) → k ≡ kind "TK_SEMI"
+  pub semi-cuts : (k start m : ℕ) (next : Cursor) (d u : ℕ) → Lexes s at (Token k start m next d u) → k ≡ kind "TK_SEMI"
       → Cuts s from (Cut from (next .at - from) any next)
   unfolding Lexes Cuts
-  semi-cuts k start m next g e =
-      cutting (token k start m (next .at)) g (λ t p other. let same : t .kind ≡ k = cc in other (same ∙ e))
+  semi-cuts k start m next d u g e =
+      cutting (token k start m (next .at) d u) g (λ t p other. let same : t .kind ≡ k = cc in other (same ∙ e))
 
   pub refusal-cuts : (why : Refusal) (start m : ℕ) (next given : Cursor) → from ≡ given .at → Lexes s at (Bad why start m next)
       → Cuts s from (Refused why start m given)
@@ -107,7 +107,7 @@ which r = tagOf Lexed-is.the-type r
 pub only-end : (s : List ℕ) (at : ℕ) (r : Lexed) → Lexes s at r → OneOf (1 ∷ 2 ∷ []) (which r) → OneOf (0 ∷ 1 ∷ []) (which r)
     → (at ≡ length s) × Gives rules s at (end at)
 unfolding Lexes
-only-end s at (Token k start n next) g p q = let z : ⊥ = ⊎-elim (λ e. omega arith) (λ e. omega arith) p in absurd z
+only-end s at (Token k start n next d u) g p q = let z : ⊥ = ⊎-elim (λ e. omega arith) (λ e. omega arith) p in absurd z
 only-end s at (Bad why start n next) g p q = let z : ⊥ = ⊎-elim (λ e. omega arith) (λ e. omega arith) q in absurd z
 only-end s at (Over next) g p q =
     let (l, o) = end-told s at (next .at) g in

@@ -18,14 +18,14 @@ use Rattle.lists.proofs.WalkLaws.{legal, is-legal, end-no-token, refusa
 module _ (goes : Goes) (s : List ℕ) where
   in-one-class : (at : ℕ) (t : Legal) → Gives rules s at (tokenOf t) → InOneClass false s at (t .length) (tokenOf t)
   in-one-class at t g =
-      let o = told s at (t .kind) (t .start) (t .length) (t .start + t .length) g in
+      let o = told s at (t .kind) (t .start) (t .length) (t .start + t .length) (t .digits) (t .underscores) g in
       (o .class, o .legal, o .longest, o .gives)
 
   pub passes-follow : (before : List Legal) (from : ℕ) (l : List Legal) (to : ℕ) → Passes goes s before from l to → Follow from l to
   unfolding Passes Follow
   passes-follow before from [] to p = p
   passes-follow before from (t ∷ l) to (e, g, o, p) =
-      let o = told s from (t .kind) (t .start) (t .length) (t .start + t .length) g in
+      let o = told s from (t .kind) (t .start) (t .length) (t .start + t .length) (t .digits) (t .underscores) g in
       (e, o .some, passes-follow (before ++ (t ∷ [])) (from + t .length) l to p)
 
   pub passes-each : (before : List Legal) (from : ℕ) (l : List Legal) (to : ℕ) → Passes goes s before from l to
@@ -49,7 +49,7 @@ run-ends s to there (inr (inr (h, (c, n, x, e)))) other = inr (inr (n, (c, bad, 
     bad =
         split (malformed c)
         (λ m. m)
-        (λ m. let (k, f) = whole-token c to w m in absurd (other (legal k to (length w)) (e ∙ f)))
+        (λ m. let (k, d, u, f) = whole-token c to w m in absurd (other (legal k to (length w) d u) (e ∙ f)))
 
 -- a walk that passes every lexeme
 pub always-ends : (s : List ℕ) (from : ℕ) (w : Walk Always s from) → RunEnds s (w .to) (w .there)
@@ -61,10 +61,10 @@ stop-ends : (s : List ℕ) (numbers : ℕ) (l : List Legal) (to : ℕ) (there : 
 stop-ends s numbers l to (end offset) g stuck = inl (run-ends s to (end offset) g (end-no-token offset))
 stop-ends s numbers l to (refusal k start n offset) g stuck =
     inl (run-ends s to (refusal k start n offset) g (refusal-no-token k start n offset))
-stop-ends s numbers l to (token k start n next) g stuck =
-    let o = told s to k start n next g in
-    let t = legal k start n in
-    let same = is-legal s to k start n next g in
+stop-ends s numbers l to (token k start n next d u) g stuck =
+    let o = told s to k start n next d u g in
+    let t = legal k start n d u in
+    let same = is-legal s to k start n next d u g in
     inr (t, (o .class, o .legal, o .longest, sym same ∙ o .gives), stuck t same, refl)
 
 pub gapless : (s : List ℕ) (from : ℕ) (old : List ℕ) (a : Answer) (records : ℕ) (new : List ℕ)

@@ -67,17 +67,17 @@ module _ {s : List ℕ} {from : ℕ} {old out : List ℕ} {at n i : ℕ} (v : In
   three = v .filled ∙ records-long (v .passed) ∙ omega (arith, v .many)
 
   -- with room for one record more
-  pub onward : (k start m : ℕ) (next : Cursor) → Lexes s at (Token k start m next) → i + 3 ≤ length out
+  pub onward : (k start m : ℕ) (next : Cursor) (d u : ℕ) → Lexes s at (Token k start m next d u) → i + 3 ≤ length out
       → Inside s from old (put out i k start m) (next .at) (n + 1) (i + 3)
   unfolding Lexes
-  onward k start m next h r =
-      let t = legal k start m in
+  onward k start m next d u h r =
+      let t = legal k start m d u in
       let e = same-long in
       let f = v .filled in
       let one = records-one (v .passed) t in
       record {
         passed = v .passed ++ (t ∷ []);
-        passes = token-passes (HasRoom (length old)) s from (v .passed) at k start m (next .at) (v .passes) h (omega arith);
+        passes = token-passes (HasRoom (length old)) s from (v .passed) at k start m (next .at) d u (v .passes) h (omega arith);
         many = omega (arith, length-append (v .passed) (t ∷ []), v .many);
         filled = sym (ap length one ∙ length-append (recordsOf (v .passed)) (recordOf t) ∙ omega arith);
         room = omega arith;
@@ -108,11 +108,11 @@ module _ {s : List ℕ} {from : ℕ} {old out : List ℕ} {at n i : ℕ} (v : In
     refusal-lists why start m next g =
         inr (short, listing (valuesOf (Bad why start m next)) g (λ t e o. refusal-no-token (numberOf why) start m (next .at) t e))
 
-    pub full-lists : (here : Cursor) → at ≡ here .at → (k start m : ℕ) (next : Cursor) → Lexes s at (Token k start m next)
+    pub full-lists : (here : Cursor) → at ≡ here .at → (k start m : ℕ) (next : Cursor) (d u : ℕ) → Lexes s at (Token k start m next d u)
         → length out - i < 3 → Lists s from old (ListFull n here) out
     unfolding Lexes Lists
-    full-lists here e k start m next g h =
-        let there = token k start m (next .at) in
+    full-lists here e k start m next d u g h =
+        let there = token k start m (next .at) d u in
         let l = same-long in
         let f = v .filled in
         let r = v .room in

@@ -37,8 +37,9 @@ Test = List Legal → Legal → Bool
 
 -- a lexeme that passes leads on; another, End and a refusal stop the walk
 abbrev turn : Test → List Legal → ℕ → (List Legal → ℕ → Stop) → Answer → Stop
-turn test l at more (token k start n behind) =
-    cond (test l (legal k start n)) (more (l ++ (legal k start n ∷ [])) behind) (stop l at (token k start n behind))
+turn test l at more (token k start n behind d u) =
+    let t = legal k start n d u in
+    cond (test l t) (more (l ++ (t ∷ [])) behind) (stop l at (token k start n behind d u))
 turn test l at more (end offset) = stop l at (end offset)
 turn test l at more (refusal k start n offset) = stop l at (refusal k start n offset)
 
@@ -61,10 +62,10 @@ module _ (goes : Goes) (test : Test) (d : Decides goes test) (s : List ℕ) (fro
       → ((m : List Legal) (to : ℕ) → Passes goes s [] from m to → Right goes s from (more m to)) → Right goes s from (turn test l at more a)
   turn-right l at more (end offset) p g r = (p, g, λ t e o. end-no-token offset t e)
   turn-right l at more (refusal k start n offset) p g r = (p, g, λ t e o. refusal-no-token k start n offset t e)
-  turn-right l at more (token k start n behind) p g r =
-      let t = legal k start n in
+  turn-right l at more (token k start n behind i u) p g r =
+      let t = legal k start n i u in
       split (test l t)
-      (λ e. rw e (r (l ++ (t ∷ [])) behind (token-passes goes s from l at k start n behind p g (d .yes l t e))))
+      (λ e. rw e (r (l ++ (t ∷ [])) behind (token-passes goes s from l at k start n behind i u p g (d .yes l t e))))
       (λ e. rw e (p, g, λ u f q. d .not l t e (subst (goes l) (sym (ap legalOf f)) q)))
 
   walk-right : (fuel : ℕ) (l : List Legal) (at : ℕ) → Passes goes s [] from l at → Right goes s from (walk fuel test s l at)

@@ -48,7 +48,7 @@ refusedOf k start n offset records =
     (cond (eqb k (listRefusal "ListFull")) (ListFull records (cursor offset)) (Refused (refusalOf k) start n records (cursor offset)))
 
 abbrev listedOf : Answer → ℕ → Listed
-listedOf (token k start n next) records = End records (cursor next)
+listedOf (token k start n next d u) records = End records (cursor next)
 listedOf (end offset) records = End records (cursor offset)
 listedOf (refusal k start n offset) records = refusedOf k start n offset records
 
@@ -181,10 +181,10 @@ cut-ends-with-semi s from start n any next x = by-answer (x .walk .there) (x .wa
     by-answer : (a : Answer) → Gives rules s (x .walk .to) a → ((t : Legal) → a ≡ tokenOf t → NoSemi (x .walk .passed) t → ⊥)
         → cut start n any (next .at) ≡ cutAnswer from (someNotNone (x .walk .passed)) a
         → ToSemi s from start n
-    by-answer (token k begin m behind) g stuck e =
-        let o = told s (x .walk .to) k begin m behind g in
-        let t = legal k begin m in
-        let same = is-legal s (x .walk .to) k begin m behind g in
+    by-answer (token k begin m behind d u) g stuck e =
+        let o = told s (x .walk .to) k begin m behind d u g in
+        let t = legal k begin m d u in
+        let same = is-legal s (x .walk .to) k begin m behind d u g in
         let semi = known k (kind "TK_SEMI") (stuck t same) in
         let ahead = passes-ahead NoSemi s [] from (x .walk .passed) (x .walk .to) (x .walk .passes) in
         let p : start ≡ from = cc in

@@ -32,7 +32,7 @@ HasRoom room before t = length (recordsOf before) + length (recordOf t) ≤ room
 
 -- the answer by what Next gives where the walk stops: End and a refusal as they are; a legal lexeme has no place
 abbrev pub listAnswer : ℕ → Answer → Answer
-listAnswer at (token kind start n next) = listFull at
+listAnswer at (token kind start n next d u) = listFull at
 listAnswer at (end offset) = end offset
 listAnswer at (refusal number start n offset) = refusal number start n offset
 

@@ -54,6 +54,8 @@ pub fn list(text: &[u8], cursor: Cursor, numbers: &mut [u32]) -> Listed
                 start,
                 length,
                 next,
+                digits: _,
+                underscores: _,
             } => {
                 if numbers.len() - filled < WIDTH {
                     return Listed::ListFull { records, next: at };

@@ -78,7 +78,7 @@ ReadsSo d [] = Unit {0}
 ReadsSo d (a ∷ l) = (r : Read) → ReadsOn d r → (valuesOf (r .lexed) ≡ a) × ReadsSo (r .reader) l
 
 offset-of : (q : Lexed) → offset (valuesOf q) ≡ offsetOf q
-offset-of (Token k start n next) = refl
+offset-of (Token k start n next d u) = refl
 offset-of (End next) = refl
 offset-of (Refused why start n next) = refl
 
@@ -106,9 +106,10 @@ table-read = every-row table table-lexed
     )
 
 -- The reader behind a token stands behind the one given, and inside the text or at its end.
-pub moves-on : (d : Reader) (k start n : ℕ) (next : Cursor) (r : Reader) → ReadsOn d (record { lexed = Token k start n next; reader = r })
+pub moves-on : (d : Reader) (k start n : ℕ) (next : Cursor) (digits underscores : ℕ) (r : Reader)
+    → ReadsOn d (record { lexed = Token k start n next digits underscores; reader = r })
     → (d .offset < r .offset) × (r .offset ≤ length (now (d .text)))
-moves-on d k start n next r x =
-    let m = moves (now (d .text)) (d .offset) k start n next (x .answers) in
+moves-on d k start n next digits underscores r x =
+    let m = moves (now (d .text)) (d .offset) k start n next digits underscores (x .answers) in
     let o = x .goes-on in
     (omega arith, omega arith)

@@ -22,7 +22,7 @@ pub record Remains (text : RefT (List ℕ)) (offset : ℕ) (r : RefT (List ℕ))
 
 -- the offset that an answer leaves
 abbrev pub offsetOf : Lexed → ℕ
-offsetOf (Token kind start length next) = next .at
+offsetOf (Token kind start length next digits underscores) = next .at
 offsetOf (End next) = next .at
 offsetOf (Refused why start length next) = next .at
 

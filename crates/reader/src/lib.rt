@@ -95,6 +95,8 @@ fn next_at(text: &[u8], offset: usize) -> Moved
             start: _,
             length: _,
             next,
+            digits: _,
+            underscores: _,
         } => Moved {
             lexed,
             offset: next.at,

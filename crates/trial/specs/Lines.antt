@@ -46,11 +46,11 @@ nameIn [] k = ""
 nameIn (r ∷ rs) k = cond (eqb k (r .number)) (r .name) (nameIn rs k)
 
 abbrev pub shown : Answer → String
-shown (token k start n next) = String._++_ (getD kindNames k "") (String._++_ (number start) (number n))
+shown (token k start n next d u) = String._++_ (getD kindNames k "") (String._++_ (number start) (number n))
 shown (end at) = String._++_ "END" (number at)
 shown (refusal k start n at) = String._++_ (nameIn refusals k) (String._++_ (number start) (String._++_ (number n) (number at)))
 
 abbrev pub isToken : Answer → Bool
-isToken (token k start n next) = true
+isToken (token k start n next d u) = true
 isToken (end at) = false
 isToken (refusal k start n at) = false

@@ -52,14 +52,14 @@ returns-2 c =
     let kind = c .before .before .kind in
     let next = c .before .before .before .before .next in
     let loop = c .before .before .before .before .before .loop in
-    full-lists (loop .inv .0) (loop .inv .1) _ refl _ _ _ _ (subst (Lexes _ _) (kind .given .1) (next .ensures)) (if2 .taken)
+    full-lists (loop .inv .0) (loop .inv .1) _ refl _ _ _ _ _ _ (subst (Lexes _ _) (kind .given .1) (next .ensures)) (if2 .taken)
 
 cast-put-record : tie.Need-cast-put-record Inv-loop μ-loop
 cast-put-record c =
     let kind = c .before .before .before .kind in
     let next = c .before .before .before .before .before .next in
     let loop = c .before .before .before .before .before .before .loop in
-    let t = token-told _ _ _ _ _ _ (subst (Lexes _ _) (kind .given .1) (next .ensures)) in
+    let t = token-told _ _ _ _ _ _ _ _ (subst (Lexes _ _) (kind .given .1) (next .ensures)) in
     omega (arith, t .starts, t .goes, t .inside, loop .inv .1)
 
 cast-put-record-2 : tie.Need-cast-put-record-2 Inv-loop μ-loop
@@ -67,7 +67,7 @@ cast-put-record-2 c =
     let kind = c .before .before .before .kind in
     let next = c .before .before .before .before .before .next in
     let loop = c .before .before .before .before .before .before .loop in
-    let t = token-told _ _ _ _ _ _ (subst (Lexes _ _) (kind .given .1) (next .ensures)) in
+    let t = token-told _ _ _ _ _ _ _ _ (subst (Lexes _ _) (kind .given .1) (next .ensures)) in
     omega (arith, t .starts, t .goes, t .inside, loop .inv .1)
 
 put-record-requires : tie.Need-put-record-requires Inv-loop μ-loop
@@ -95,7 +95,7 @@ loop-less : tie.Need-loop-less Inv-loop μ-loop
 loop-less c =
     let kind = c .before .before .before .before .before .before .kind in
     let next = c .before .before .before .before .before .before .before .before .next in
-    let t = moves _ _ _ _ _ _ (subst (Lexes _ _) (kind .given .1) (next .ensures)) in
+    let t = moves _ _ _ _ _ _ _ _ (subst (Lexes _ _) (kind .given .1) (next .ensures)) in
     omega arith
 
 loop-again : tie.Need-loop-again Inv-loop μ-loop
@@ -105,7 +105,7 @@ loop-again c =
     let kind = c .before .before .before .before .before .before .kind in
     let next = c .before .before .before .before .before .before .before .before .next in
     let loop = c .before .before .before .before .before .before .before .before .before .loop in
-    let go = onward (loop .inv .0) _ _ _ _ (subst (Lexes _ _) (kind .given .1) (next .ensures)) (omega (arith, if2 .left)) in
+    let go = onward (loop .inv .0) _ _ _ _ _ _ (subst (Lexes _ _) (kind .given .1) (next .ensures)) (omega (arith, if2 .left)) in
     (rw (put-record .ensures) go, loop .inv .1)
 
 enum-known-next : tie.Need-enum-known-next Inv-loop μ-loop
