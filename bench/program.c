@@ -64,7 +64,7 @@ enum { CUT = 101 };
 typedef uint32_t place_function(const uint8_t *text, uint64_t length, uint64_t offset, uint64_t *answer);
 place_function sqllex_next, sqllex_cut;
 
-static uint64_t places[TEXT + 1], place_count, answer[4];
+static uint64_t places[TEXT + 1], place_count, answer[6];
 static uint32_t no_call(const uint8_t *t, uint64_t n, uint64_t at, uint64_t *a) { return 0; }
 static place_function *volatile place_call;
 static void call_at_places(void)

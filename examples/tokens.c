@@ -33,7 +33,7 @@ static void print_records(size_t records)
 /* A full list is printed, and filled again from where it ended. */
 static void print_tokens(size_t text_length)
 {
-    sqllex_answer answer = {0, 0, 0, 0};
+    sqllex_answer answer = {0, 0, 0, 0, 0, 0};
     size_t tokens = 0;
     uint32_t status;
     do {

@@ -16,6 +16,8 @@ mod sqllex {
         start: usize,
         length: usize,
         next: usize,
+        digits: usize,
+        underscores: usize,
     }
 
     #[link(name = "capi", kind = "static")]
@@ -36,7 +38,7 @@ mod sqllex {
         let mut answer = Answer::default();
         // SAFETY: a slice has all its bytes, which stay as they are while it is lent; the answer is this function's own.
         let status = unsafe { sqllex_next(text.as_ptr(), text.len(), offset, &mut answer) };
-        let Answer { value, start, length, next } = answer;
+        let Answer { value, start, length, next, .. } = answer;
         match status {
             0 => Lexed::End { next },
             100 => Lexed::Token { kind: value, start, length, next },

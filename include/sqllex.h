@@ -27,21 +27,23 @@
 #endif
 
 /*
- * What a call says beside its status. A call writes all four, whatever the status. `start` and `length` are a span of the text in
+ * What a call says beside its status. A call writes all six, whatever the status. `start` and `length` are a span of the text in
  * bytes; places count from the text's first byte, wherever lexing began. `next` is the offset to go on from after a find or a full
- * list; after a refusal see each call.
+ * list; after a refusal see each call. `digits` and `underscores` are those of a number that sqllex_next finds; else both are 0.
  */
 typedef struct sqllex_answer {
     size_t value; /* the kind (next), the number of records (list_from), whether tokens came (cut) */
     size_t start;
     size_t length;
     size_t next;
+    size_t digits;
+    size_t underscores;
 } sqllex_answer;
 
 #if defined(__cplusplus) && __cplusplus >= 201103L
-static_assert(sizeof(sqllex_answer) == 32, "the library's answers are four words of 8 bytes");
+static_assert(sizeof(sqllex_answer) == 48, "the library's answers are six words of 8 bytes");
 #elif defined(__STDC_VERSION__) && __STDC_VERSION__ >= 201112L
-_Static_assert(sizeof(sqllex_answer) == 32, "the library's answers are four words of 8 bytes");
+_Static_assert(sizeof(sqllex_answer) == 48, "the library's answers are six words of 8 bytes");
 #endif
 
 /* Statuses: 0, nothing is left; 1 to 99, a refusal; from 100 on, a find. */
@@ -299,6 +301,10 @@ extern "C" {
  *     SQLLEX_END               0      text_length  0            text_length
  *     1 to 7                   0      of the span  of the span  offset, or start + length
  *     SQLLEX_OFFSET_PAST_END   0      0            0            offset
+ *
+ * A token of kind SQLLEX_TK_INTEGER or SQLLEX_TK_FLOAT has at least one digit. Of a hexadecimal integer the digits behind `0x` count,
+ * of any other number all its decimal digits, and of each its underscores: `1.5e+1_0` has 4 and 1, `0x1_F` 2 and 1. Neither is ever
+ * more than 4294967295, which stands for that many or more. Other tokens have 0 and 0, and so has every other status.
  *
  * After a refusal of 1 to 7 `next` is the offset given, so that a call there refuses again; to go on behind the refused bytes, call
  * at start + length, which is greater than the offset. Only where the first byte begins no lexeme at all, as `{` does, is `next`

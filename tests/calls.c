@@ -1,9 +1,9 @@
 /*
  * calls.c: every call of include/sqllex.h, with each text, list and answer beside a page that cannot be touched. tests/library runs it.
  *
- * calls PLACE next|list N|cut|word  reads records as sqlbatch does, and prints what sqlbatch prints of them
- * calls PLACE replay                prints what the program replay prints of them
- * calls PLACE edges                 tries the calls that stand below with their answers
+ * calls PLACE next|sums|list N|cut|word  reads records as sqlbatch does, and prints what sqlbatch prints of them
+ * calls PLACE replay                     prints what the program replay prints of them
+ * calls PLACE edges                      tries the calls that stand below with their answers
  *
  * PLACE, front or back, says where a text, list or answer lies in its room between two such pages: at its beginning or at its end.
  * In every mode what a call must leave alone is seen to be as it was: the bytes beside the answer and the list, the list's numbers
@@ -158,6 +158,11 @@ static uint32_t call_list(size_t offset, size_t length, uint32_t **list, sqllex_
 }
 
 /* The name of a status, and what every answer with it has, beside what is printed. */
+static void look_for_sums(const sqllex_answer *answer)
+{
+    require(answer->digits == 0 && answer->underscores == 0, "digits or underscores of what is no number");
+}
+
 static const char *refusal_name(uint32_t status, const sqllex_answer *answer)
 {
     require(status >= 1 && status <= SQLLEX_LIST_FULL, "a status that is none");
@@ -176,7 +181,20 @@ static void look_at_end(const sqllex_answer *answer)
     require(answer->start == answer->next && answer->next == text_length && answer->length == 0, "an end that is not the text's");
 }
 
-static size_t print_walk(size_t offset)
+static void print_token(const sqllex_answer *answer, bool sums)
+{
+    bool number = answer->value == SQLLEX_TK_INTEGER || answer->value == SQLLEX_TK_FLOAT;
+    if (!number)
+        look_for_sums(answer);
+    require((answer->digits > 0) == number, "a number without a digit");
+    require(answer->digits <= answer->length && answer->underscores <= answer->length - answer->digits, "more digits than bytes");
+    printf("%s\t%zu\t%zu", kind_names[answer->value], answer->start, answer->length);
+    if (sums)
+        printf("\t%zu\t%zu", answer->digits, answer->underscores);
+    printf("\n");
+}
+
+static size_t print_walk(size_t offset, bool sums)
 {
     sqllex_answer answer;
     size_t tokens = 0;
@@ -185,11 +203,12 @@ static size_t print_walk(size_t offset)
         require(answer.value < SQLLEX_KINDS_COUNT, "a kind that is none");
         require(answer.start == offset && answer.next == offset + answer.length, "a token that lies elsewhere");
         require(answer.length > 0, "a token of no byte");
-        printf("%s\t%zu\t%zu\n", kind_names[answer.value], answer.start, answer.length);
+        print_token(&answer, sums);
         offset = answer.next;
         tokens++;
     }
     require(answer.value == 0, "a value beside an end or a refusal");
+    look_for_sums(&answer);
     if (status == SQLLEX_END) {
         look_at_end(&answer);
         printf("END\t%zu\t%zu\n\n", answer.next, tokens);
@@ -207,6 +226,7 @@ static void print_list(size_t offset, size_t length)
     sqllex_answer answer;
     uint32_t *list;
     uint32_t status = call_list(offset, length, &list, &answer);
+    look_for_sums(&answer);
     for (size_t i = 0; i < length; i++)
         printf("%s%lu", i > 0 ? " " : "", (unsigned long)list[i]);
     printf("\n");
@@ -223,6 +243,7 @@ static void print_cut(size_t offset)
 {
     sqllex_answer answer;
     uint32_t status = call_cut(offset, &answer);
+    look_for_sums(&answer);
     if (status == SQLLEX_CUT) {
         printf("CUT\t%zu\t%zu\t%zu\t%zu\n\n", answer.start, answer.length, answer.value, answer.next);
         return;
@@ -239,8 +260,8 @@ static void print_cut(size_t offset)
 
 static void print_replay(size_t offset)
 {
-    size_t tokens = print_walk(offset);
-    (void)print_walk(offset); /* the program replay has this one from a reader, which C has not */
+    size_t tokens = print_walk(offset, true);
+    (void)print_walk(offset, true); /* the program replay has this one from a reader, which C has not */
     size_t enough = text_length > SQLLEX_LONGEST_TEXT ? 0 : tokens * SQLLEX_RECORD_WIDTH;
     for (size_t length = 0; length < 8; length++)
         print_list(offset, length);
@@ -252,7 +273,12 @@ static void print_replay(size_t offset)
 
 static void print_next(size_t offset)
 {
-    (void)print_walk(offset);
+    (void)print_walk(offset, false);
+}
+
+static void print_sums(size_t offset)
+{
+    (void)print_walk(offset, true);
 }
 
 static size_t list_length;
@@ -283,21 +309,29 @@ static void each_record(void (*print)(size_t offset))
     }
 }
 
-/* The calls of `edges`, each with its status, value, start, length and next. */
+/* The calls of `edges`, each with its status, value, start, length and next; a number with its digits and underscores too. */
+static void expect_number(int line, uint32_t got, const sqllex_answer *said, uint32_t status, size_t value, size_t start, size_t length,
+                          size_t next, size_t digits, size_t underscores)
+{
+    if (got == status && said->value == value && said->start == start && said->length == length && said->next == next &&
+        said->digits == digits && said->underscores == underscores)
+        return;
+    fprintf(stderr, "calls: line %d: the status is %u, the answer %zu %zu %zu %zu %zu %zu\n", line, (unsigned)got, said->value,
+            said->start, said->length, said->next, said->digits, said->underscores);
+    exit(1);
+}
+
 static void expect(int line, uint32_t got, const sqllex_answer *said, uint32_t status, size_t value, size_t start, size_t length,
                    size_t next)
 {
-    if (got == status && said->value == value && said->start == start && said->length == length && said->next == next)
-        return;
-    fprintf(stderr, "calls: line %d: the status is %u, the answer %zu %zu %zu %zu\n", line, (unsigned)got, said->value, said->start,
-            said->length, said->next);
-    exit(1);
+    expect_number(line, got, said, status, value, start, length, next, 0, 0);
 }
 
 static sqllex_answer said;
 static uint32_t *list;
 #define TEXT(literal) set_text(literal, sizeof literal - 1)
 #define NEXT(offset, ...) expect(__LINE__, call_next(offset, &said), &said, __VA_ARGS__)
+#define NUMBER(offset, ...) expect_number(__LINE__, call_next(offset, &said), &said, SQLLEX_TOKEN, __VA_ARGS__)
 #define CUT(offset, ...) expect(__LINE__, call_cut(offset, &said), &said, __VA_ARGS__)
 #define LIST(offset, length, ...) expect(__LINE__, call_list(offset, length, &list, &said), &said, __VA_ARGS__)
 
@@ -308,7 +342,7 @@ static void try_next(void)
     NEXT(1, SQLLEX_OFFSET_PAST_END, 0, 0, 0, 1);
     TEXT("SELECT 1.e-1;\n");
     NEXT(0, SQLLEX_TOKEN, SQLLEX_TK_SELECT, 0, 6, 6);
-    NEXT(7, SQLLEX_TOKEN, SQLLEX_TK_FLOAT, 7, 5, 12);
+    NUMBER(7, SQLLEX_TK_FLOAT, 7, 5, 12, 2, 0);
     NEXT(8, SQLLEX_TOKEN, SQLLEX_TK_DOT, 8, 1, 9);
     NEXT(14, SQLLEX_END, 0, 14, 0, 14);
     NEXT(15, SQLLEX_OFFSET_PAST_END, 0, 0, 0, 15);
@@ -329,6 +363,19 @@ static void try_next(void)
     NEXT(2, SQLLEX_MALFORMED_HEX_INTEGER, 0, 2, 2, 2);
     TEXT("a !");
     NEXT(2, SQLLEX_EXPECTED_EQUALS_SIGN, 0, 2, 1, 2);
+}
+
+static void try_numbers(void)
+{
+    TEXT("1e_5 0x1_F 1.5e+1_0 5. ?12 0X0 .0_0 0");
+    NUMBER(0, SQLLEX_TK_FLOAT, 0, 4, 4, 2, 1);
+    NUMBER(5, SQLLEX_TK_INTEGER, 5, 5, 10, 2, 1);
+    NUMBER(11, SQLLEX_TK_FLOAT, 11, 8, 19, 4, 1);
+    NUMBER(20, SQLLEX_TK_FLOAT, 20, 2, 22, 1, 0);
+    NUMBER(23, SQLLEX_TK_VARIABLE, 23, 3, 26, 0, 0);
+    NUMBER(27, SQLLEX_TK_INTEGER, 27, 3, 30, 1, 0);
+    NUMBER(31, SQLLEX_TK_FLOAT, 31, 4, 35, 2, 1);
+    NUMBER(36, SQLLEX_TK_INTEGER, 36, 1, 37, 1, 0);
 }
 
 static void try_list(void)
@@ -390,8 +437,12 @@ static void try_long(void)
     memset(bytes, ' ', sizeof bytes);
     set_text(bytes, sizeof bytes);
     NEXT(0, SQLLEX_TOKEN, SQLLEX_TK_NONE, 0, TEXT_MOST, TEXT_MOST);
-    NEXT(TEXT_MOST, SQLLEX_END, 0, TEXT_MOST, 0, TEXT_MOST);
     CUT(65536, SQLLEX_END, 0, TEXT_MOST, 0, TEXT_MOST);
+    NEXT(TEXT_MOST, SQLLEX_END, 0, TEXT_MOST, 0, TEXT_MOST);
+    for (size_t i = 0; i < sizeof bytes; i++)
+        bytes[i] = i % 2 == 0 ? '9' : '_';
+    set_text(bytes, sizeof bytes - 1);
+    NUMBER(0, SQLLEX_TK_INTEGER, 0, TEXT_MOST - 1, TEXT_MOST - 1, TEXT_MOST / 2, TEXT_MOST / 2 - 1);
 }
 
 static void try_word(const char *word, uint32_t kind, bool quotable)
@@ -431,6 +482,7 @@ static void try_null(void)
 static void try_edges(void)
 {
     try_next();
+    try_numbers();
     try_list();
     try_cut();
     try_long();
@@ -440,7 +492,7 @@ static void try_edges(void)
 
 int main(int argc, char **argv)
 {
-    static const char usage[] = "calls front|back next|list N|cut|word|replay|edges";
+    static const char usage[] = "calls front|back next|sums|list N|cut|word|replay|edges";
     require(argc == 3 || argc == 4, usage);
     at_back = strcmp(argv[1], "back") == 0;
     require(at_back || strcmp(argv[1], "front") == 0, usage);
@@ -452,6 +504,8 @@ int main(int argc, char **argv)
     require(list_length <= LIST_MOST, usage);
     if (strcmp(mode, "next") == 0)
         each_record(print_next);
+    else if (strcmp(mode, "sums") == 0)
+        each_record(print_sums);
     else if (strcmp(mode, "list") == 0)
         each_record(print_one_list);
     else if (strcmp(mode, "cut") == 0)

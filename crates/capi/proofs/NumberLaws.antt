@@ -28,5 +28,5 @@ list-value (TooLong next) = refl
 list-value (ListFull records next) = refl
 
 -- what `give` did with the five of an answer
-pub given : (r m : Numbers) (status : ℕ) (four : List ℕ) → m ≡ r → (status ≡ m .status) × (four ≡ written m) → Gave r status four
-given r m status four e (s, w) = (s ∙ ap (λ (x : Numbers). x .status) e, w ∙ ap written e)
+pub given : (r m : Numbers) (status : ℕ) (six : List ℕ) → m ≡ r → (status ≡ m .status) × (six ≡ written m) → Gave r status six
+given r m status six e (s, w) = (s ∙ ap (λ (x : Numbers). x .status) e, w ∙ ap written e)

@@ -11,21 +11,21 @@ use Rattle.lists.specs.Cuts.{Cuts}
 use Rattle.capi.specs.declared.answers.Numbers.{Numbers}
 use Rattle.capi.specs.Numbers.{ofNext, ofList, ofCut, written}
 
--- the status and the four numbers written
+-- the status and the six numbers written
 abbrev pub Gave : Numbers → ℕ → List ℕ → Type 0
-Gave r status four = (status ≡ r .status) × (four ≡ written r)
+Gave r status six = (status ≡ r .status) × (six ≡ written r)
 
 -- Next
-pub record NextNumbers (s : List ℕ) (at status : ℕ) (four : List ℕ) : Type 0 where
+pub record NextNumbers (s : List ℕ) (at status : ℕ) (six : List ℕ) : Type 0 where
   pub answer : Lexed
   pub owed : Lexes s at answer
-  pub gave : Gave (ofNext answer) status four
+  pub gave : Gave (ofNext answer) status six
 
 -- List, with the list before and after
-pub record ListNumbers (s : List ℕ) (at : ℕ) (old : List ℕ) (status : ℕ) (four new : List ℕ) : Type 0 where
+pub record ListNumbers (s : List ℕ) (at : ℕ) (old : List ℕ) (status : ℕ) (six new : List ℕ) : Type 0 where
   pub answer : Listed
   pub owed : Lists s at old answer new
-  pub gave : Gave (ofList answer) status four
+  pub gave : Gave (ofList answer) status six
 
 -- List from the text's beginning on: how many records it wrote, and the list
 pub record ListCount (s old : List ℕ) (records : ℕ) (new : List ℕ) : Type 0 where
@@ -34,7 +34,7 @@ pub record ListCount (s old : List ℕ) (records : ℕ) (new : List ℕ) : Type 
   pub gave : records ≡ recordsIn answer
 
 -- the cut
-pub record CutNumbers (s : List ℕ) (at status : ℕ) (four : List ℕ) : Type 0 where
+pub record CutNumbers (s : List ℕ) (at status : ℕ) (six : List ℕ) : Type 0 where
   pub answer : Statement
   pub owed : Cuts s at answer
-  pub gave : Gave (ofCut answer) status four
+  pub gave : Gave (ofCut answer) status six

@@ -1,4 +1,5 @@
--- The answers of Next, List and the cut as C gets them: a status, and beside it a value, a span and an offset. Assumes nothing.
+-- The answers of Next, List and the cut as C gets them: a status, and beside it a value, a span, an offset, and how many digits and
+-- underscores a number has. Assumes nothing.
 use Prim.Native.Nat.{ℕ}
 use mathlib.Core.Bool.{cond}
 use mathlib.Core.List.{List, [], _∷_}
@@ -12,19 +13,23 @@ use Rattle.lists.specs.Cuts.{CutAnswer, cut, opened, ended, refused}
 use Rattle.lists.specs.Cuts as Cuts
 use Rattle.capi.specs.declared.answers.Numbers.{Numbers}
 
--- the five numbers of an answer
+-- the numbers of an answer that is no token
 abbrev pub five : ℕ → ℕ → ℕ → ℕ → ℕ → Numbers
-five status value start n next = record { status = status; value = value; start = start; length = n; next = next }
+five status value start n next = record { status = status; value = value; start = start; length = n; next = next; digits = 0; underscores = 0 }
 
--- a token has status 100, End 0, a refusal its number; End has the empty span at its offset
+-- those of a token, whose status is 100
+abbrev pub ofToken : ℕ → ℕ → ℕ → ℕ → ℕ → ℕ → Numbers
+ofToken value start n next d u = record { status = 100; value = value; start = start; length = n; next = next; digits = d; underscores = u }
+
+-- End has status 0 and the empty span at its offset, a refusal its number
 abbrev pub ofAnswer : ℕ → Answer → Numbers
-ofAnswer value (token kind start n next) = five 100 value start n next
+ofAnswer value (token kind start n next d u) = ofToken value start n next d u
 ofAnswer value (end offset) = five 0 value offset 0 offset
 ofAnswer value (refusal number start n offset) = five number value start n offset
 
 -- of Next the value is the kind, 0 where there is no token
 abbrev pub kindGiven : Answer → ℕ
-kindGiven (token kind start n next) = kind
+kindGiven (token kind start n next d u) = kind
 kindGiven (end offset) = 0
 kindGiven (refusal number start n offset) = 0
 
@@ -46,6 +51,6 @@ ofCutAnswer (refused number start n offset) = five number 0 start n offset
 abbrev pub ofCut : Statement → Numbers
 ofCut r = ofCutAnswer (Cuts.valuesOf r)
 
--- the four that are written
+-- the six that are written
 abbrev pub written : Numbers → List ℕ
-written r = r .value ∷ r .start ∷ r .length ∷ r .next ∷ []
+written r = r .value ∷ r .start ∷ r .length ∷ r .next ∷ r .digits ∷ r .underscores ∷ []

@@ -6,7 +6,7 @@ use lists::cut::Statement;
 use lists::list::Listed;
 ghost use mathlib.Core.Path.{_≡_};
 ghost use Rattle.lexer.specs.Values.{numberOf};
-ghost use Rattle.capi.specs.Numbers.{five, ofNext, ofList, ofCut, written};
+ghost use Rattle.capi.specs.Numbers.{five, ofToken, ofNext, ofList, ofCut, written};
 
 // The statuses that are no refusal, and the refusals that List adds.
 pub(crate) const END: u32 = 0;
@@ -27,8 +27,11 @@ pub(crate) struct Numbers {
     start: usize,
     length: usize,
     next: usize,
+    digits: usize,
+    underscores: usize,
 }
 
+// Of what is no token.
 fn five(status: u32, value: usize, start: usize, bytes: usize, next: Cursor) -> Numbers
     ensures { λ r. ⌜ r ≡ five status value start bytes (next .at) ⌝ }
 {
@@ -38,14 +41,44 @@ fn five(status: u32, value: usize, start: usize, bytes: usize, next: Cursor) -> 
         start,
         length: bytes,
         next: next.at,
+        digits: 0,
+        underscores: 0,
+    }
+}
+
+fn of_token(
+    kind: u32,
+    start: usize,
+    bytes: usize,
+    next: Cursor,
+    digits: u32,
+    underscores: u32,
+) -> Numbers
+    ensures { λ r. ⌜ r ≡ ofToken kind start bytes (next .at) digits underscores ⌝ }
+{
+    Numbers {
+        status: TOKEN,
+        value: kind as usize,
+        start,
+        length: bytes,
+        next: next.at,
+        digits: digits as usize,
+        underscores: underscores as usize,
     }
 }
 
 // Writes all but the status, which it returns.
-pub(crate) fn give(given: Numbers, answer: &mut [usize; 4]) -> u32
+pub(crate) fn give(given: Numbers, answer: &mut [usize; 6]) -> u32
     ensures { λ r. ⌜ (r ≡ given .status) × (now (answer .exit) ≡ written given) ⌝ }
 {
-    *answer = [given.value, given.start, given.length, given.next];
+    *answer = [
+        given.value,
+        given.start,
+        given.length,
+        given.next,
+        given.digits,
+        given.underscores,
+    ];
     given.status
 }
 
@@ -73,7 +106,9 @@ pub(crate) fn of_next(answer: Lexed) -> Numbers
             start,
             length,
             next,
-        } => five(TOKEN, kind as usize, start, length, next),
+            digits,
+            underscores,
+        } => of_token(kind, start, length, next, digits, underscores),
         Lexed::End { next } => five(END, 0, next.at, 0, next),
         Lexed::Refused {
             why,

@@ -15,7 +15,7 @@ ghost use Rattle.words.specs.Word.{kindOf, isQuotable};
 ghost use Rattle.capi.specs.Calls.{NextNumbers, ListNumbers, ListCount, CutNumbers};
 
 #[no_mangle]
-pub extern "C" fn sqllex_next(text: &[u8], offset: usize, answer: &mut [usize; 4]) -> u32
+pub extern "C" fn sqllex_next(text: &[u8], offset: usize, answer: &mut [usize; 6]) -> u32
     ensures { λ r. ⌜ NextNumbers (now (text .entry)) offset r (now (answer .exit)) ⌝ }
 {
     give(of_next(next(text, Cursor { at: offset })), answer)
@@ -26,7 +26,7 @@ pub extern "C" fn sqllex_list_from(
     text: &[u8],
     offset: usize,
     list: &mut [u32],
-    answer: &mut [usize; 4],
+    answer: &mut [usize; 6],
 ) -> u32
     ensures { λ r. ⌜ ListNumbers (now (text .entry)) offset (now (list .entry)) r (now (answer .exit)) (now (list .exit)) ⌝ }
 {
@@ -46,7 +46,7 @@ pub extern "C" fn sqllex_list(text: &[u8], list: &mut [u32]) -> u64
 }
 
 #[no_mangle]
-pub extern "C" fn sqllex_cut(text: &[u8], offset: usize, answer: &mut [usize; 4]) -> u32
+pub extern "C" fn sqllex_cut(text: &[u8], offset: usize, answer: &mut [usize; 6]) -> u32
     ensures { λ r. ⌜ CutNumbers (now (text .entry)) offset r (now (answer .exit)) ⌝ }
 {
     give(of_cut(cut(text, Cursor { at: offset })), answer)
