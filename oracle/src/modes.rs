@@ -2,15 +2,18 @@
 
 use crate::lexer::{is_quotable_keyword, word_kind};
 use crate::list::{self, Statement};
+use crate::token::TokenType::{self, TK_FLOAT, TK_INTEGER};
 use crate::walk::{walk, Stop};
 use std::io::{self, Write};
 
 pub const USAGE: &str =
-    "modes: next, list N (0 to 196605), cut, word, replay (records in, answers out); answers; compare";
+    "modes: next, sums, list N (0 to 196605), cut, word, replay (records in, answers out); answers; compare";
 
 #[derive(Clone, Copy)]
 pub enum Mode {
     Next,
+    /// Next, with how many digits and underscores each token has.
+    Sums,
     /// With so many numbers lent.
     List(usize),
     Cut,
@@ -23,6 +26,7 @@ impl Mode {
         let words: Vec<_> = words.iter().map(String::as_str).collect();
         match words[..] {
             ["next"] => Some(Mode::Next),
+            ["sums"] => Some(Mode::Sums),
             ["list", n] => n.parse().ok().filter(|&n| n <= list::MOST).map(Mode::List),
             ["cut"] => Some(Mode::Cut),
             ["word"] => Some(Mode::Word),
@@ -34,6 +38,7 @@ impl Mode {
     pub fn words(self) -> Vec<String> {
         match self {
             Mode::Next => vec!["next".to_string()],
+            Mode::Sums => vec!["sums".to_string()],
             Mode::List(n) => vec!["list".to_string(), n.to_string()],
             Mode::Cut => vec!["cut".to_string()],
             Mode::Word => vec!["word".to_string()],
@@ -42,7 +47,8 @@ impl Mode {
 
     pub fn print(self, out: &mut impl Write, offset: usize, text: &[u8]) -> io::Result<()> {
         match self {
-            Mode::Next => print_walk(out, offset, text),
+            Mode::Next => print_walk(out, offset, text, |_, _| String::new()),
+            Mode::Sums => print_walk(out, offset, text, sums),
             Mode::List(n) => print_list(out, n, offset, text),
             Mode::Cut => print_cut(out, offset, text),
             Mode::Word => print_word(out, text),
@@ -50,28 +56,44 @@ impl Mode {
     }
 }
 
-/// What the program `replay` prints of a record: Next, Next by a reader, List with too few, just enough and more numbers, and the cut.
+/// What the program `replay` prints of a record: Next with sums, so by a reader, List with too few, just enough and more numbers, and the cut.
 pub fn print_replay(out: &mut impl Write, offset: usize, text: &[u8]) -> io::Result<()> {
     let (_, records) = list::list(&mut vec![0; list::MOST], text, offset)?;
-    Mode::Next.print(out, offset, text)?;
-    Mode::Next.print(out, offset, text)?;
+    Mode::Sums.print(out, offset, text)?;
+    Mode::Sums.print(out, offset, text)?;
     for n in (0..8).chain([(3 * records).saturating_sub(1), 3 * records, 3 * records + 4]) {
         Mode::List(n).print(out, offset, text)?;
     }
     Mode::Cut.print(out, offset, text)
 }
 
-/// A line for each token, a last line for how the walk stopped.
-fn print_walk(out: &mut impl Write, offset: usize, text: &[u8]) -> io::Result<()> {
+/// A line for each token, with what `more` says of its kind and bytes, and a last line for how the walk stopped.
+fn print_walk(
+    out: &mut impl Write,
+    offset: usize,
+    text: &[u8],
+    more: impl Fn(TokenType, &[u8]) -> String,
+) -> io::Result<()> {
     let mut count = 0;
     let stop = walk(text, offset, |kind, start, length| {
         count += 1;
-        writeln!(out, "{kind:?}\t{start}\t{length}")
+        writeln!(out, "{kind:?}\t{start}\t{length}{}", more(kind, &text[start..start + length]))
     })?;
     match stop {
         Stop::End(offset) => writeln!(out, "END\t{offset}\t{count}\n"),
         Stop::Refusal(name, start, length, offset) => writeln!(out, "{name}\t{start}\t{length}\t{offset}\n"),
     }
+}
+
+/// How many digits and underscores a number has; other tokens have none. The published lexer does not count them.
+fn sums(kind: TokenType, bytes: &[u8]) -> String {
+    let count = |bytes: &[u8], counts: fn(&u8) -> bool| bytes.iter().filter(|byte| counts(byte)).count();
+    let digits = match (kind, bytes) {
+        (TK_INTEGER, [b'0', b'x' | b'X', behind @ ..]) => count(behind, u8::is_ascii_hexdigit),
+        (TK_INTEGER | TK_FLOAT, _) => count(bytes, u8::is_ascii_digit),
+        _ => return "\t0\t0".to_string(),
+    };
+    format!("\t{digits}\t{}", count(bytes, |&byte| byte == b'_'))
 }
 
 /// The numbers lent as they are afterwards, then how List stopped and the number of records.

@@ -5,6 +5,7 @@ use crate::lines::put_end;
 use crate::lines::put_place;
 use crate::lines::put_refusal;
 use crate::lines::put_statement;
+use crate::lines::put_sums;
 use crate::lines::put_token;
 use crate::lines::put_why;
 use crate::numbers::put_column;
@@ -25,6 +26,13 @@ use words::lookup::keyword_or_id_token;
 ghost use Rattle.lexer.specs.Values.{Lexes};
 ghost use Rattle.rows.specs.Out.{Within};
 
+// How a text is walked: by `next`; so, and with each token's digits and underscores; with them, by a reader.
+pub(crate) enum Way {
+    Next,
+    Sums,
+    Reader,
+}
+
 // A line for each token, then END, the offset and the number of tokens, or the refusal, its span and the offset.
 pub(crate) fn put_walk(
     out: &mut [u8],
@@ -32,7 +40,7 @@ pub(crate) fn put_walk(
     names: &[u8; 2992],
     text: &[u8],
     offset: usize,
-    by_reader: bool,
+    way: Way,
 ) -> usize
     ensures { λ r. ⌜ Within (now (out .exit)) r ⌝ }
 {
@@ -40,14 +48,17 @@ pub(crate) fn put_walk(
     let mut end = at;
     let mut tokens = 0;
     loop {
-        match lexed_at(text, cursor, by_reader) {
+        match lexed_at(text, cursor, way) {
             Lexed::Token {
                 kind,
                 start,
                 length,
                 next,
+                digits,
+                underscores,
             } => {
                 end = put_token(out, end, names, kind, start, length);
+                end = put_counts(out, end, way, digits, underscores);
                 tokens += 1;
                 cursor = next;
             }
@@ -63,13 +74,25 @@ pub(crate) fn put_walk(
 }
 
 // The same answer, from `next` or through a reader.
-fn lexed_at(text: &[u8], cursor: Cursor, by_reader: bool) -> Lexed
+fn lexed_at(text: &[u8], cursor: Cursor, way: Way) -> Lexed
     ensures { λ r. ⌜ Lexes (now (text .entry)) (cursor .at) r ⌝ }
 {
-    if by_reader {
-        return read_at(text, cursor.at);
+    match way {
+        Way::Next => next(text, cursor),
+        Way::Sums => next(text, cursor),
+        Way::Reader => read_at(text, cursor.at),
     }
-    next(text, cursor)
+}
+
+// What ends a token's line.
+fn put_counts(out: &mut [u8], at: usize, way: Way, digits: u32, underscores: u32) -> usize
+    ensures { λ r. ⌜ Within (now (out .exit)) r ⌝ }
+{
+    match way {
+        Way::Next => put(out, at, b"\n"),
+        Way::Sums => put_sums(out, at, digits, underscores),
+        Way::Reader => put_sums(out, at, digits, underscores),
+    }
 }
 
 // The lent numbers behind `list`, in one line, which shows also those that it leaves as they were: each is 4294967295 before. Then

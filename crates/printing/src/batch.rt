@@ -1,4 +1,5 @@
 // What a program prints of each record of its input.
+use crate::answers::Way;
 use crate::blocks::put_cut_block;
 use crate::blocks::put_list_block;
 use crate::blocks::put_walk_block;
@@ -13,10 +14,11 @@ use rows::out::flush;
 use rows::out::put;
 ghost use Rattle.rows.specs.Out.{Within};
 
-// What is printed of a record: `next` walked over the text, a list of so many numbers, the statement cut, the text as a word; or, for
-// `Replay`, the walk, the walk by a reader, lists of several lengths and the cut.
+// What is printed of a record: `next` walked over the text, also with the tokens' digits and underscores, a list of so many numbers, the
+// statement cut, the text as a word; or, for `Replay`, the walk, the walk by a reader, lists of several lengths and the cut.
 pub enum Mode {
     Next,
+    Sums,
     List(usize),
     Cut,
     Word,
@@ -88,7 +90,8 @@ fn put_answer(
     ensures { λ r. ⌜ Within (now (out .exit)) r ⌝ }
 {
     match mode {
-        Mode::Next => put_walk_block(out, at, names, text, offset),
+        Mode::Next => put_walk_block(out, at, names, text, offset, Way::Next),
+        Mode::Sums => put_walk_block(out, at, names, text, offset, Way::Sums),
         Mode::List(n) => put_list_block(out, at, text, offset, numbers, n),
         Mode::Cut => put_cut_block(out, at, text, offset),
         Mode::Word => put_word_block(out, at, names, text),

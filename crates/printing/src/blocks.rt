@@ -1,4 +1,5 @@
 // What the answers print, with an empty line behind each.
+use crate::answers::Way;
 use crate::answers::put_cut;
 use crate::answers::put_list;
 use crate::answers::put_walk;
@@ -14,24 +15,11 @@ pub(crate) fn put_walk_block(
     names: &[u8; 2992],
     text: &[u8],
     offset: usize,
+    way: Way,
 ) -> usize
     ensures { λ r. ⌜ Within (now (out .exit)) r ⌝ }
 {
-    let end = put_walk(out, at, names, text, offset, false);
-    put_byte(out, end, b'\n')
-}
-
-// The same, by a reader.
-pub(crate) fn put_read_block(
-    out: &mut [u8],
-    at: usize,
-    names: &[u8; 2992],
-    text: &[u8],
-    offset: usize,
-) -> usize
-    ensures { λ r. ⌜ Within (now (out .exit)) r ⌝ }
-{
-    let end = put_walk(out, at, names, text, offset, true);
+    let end = put_walk(out, at, names, text, offset, way);
     put_byte(out, end, b'\n')
 }
 

@@ -5,6 +5,7 @@ use lexer::lexed::Refusal;
 use rows::out::put;
 ghost use Rattle.rows.specs.Out.{Within};
 
+// The line goes on.
 pub(crate) fn put_token(
     out: &mut [u8],
     at: usize,
@@ -16,9 +17,15 @@ pub(crate) fn put_token(
     ensures { λ r. ⌜ Within (now (out .exit)) r ⌝ }
 {
     let named = put_kind(out, at, names, kind);
-    let placed = put_column(out, named, start);
-    let measured = put_column(out, placed, length);
-    put(out, measured, b"\n")
+    put_span(out, named, start, length)
+}
+
+pub(crate) fn put_sums(out: &mut [u8], at: usize, digits: u32, underscores: u32) -> usize
+    ensures { λ r. ⌜ Within (now (out .exit)) r ⌝ }
+{
+    let counted = put_column(out, at, digits as usize);
+    let both = put_column(out, counted, underscores as usize);
+    put(out, both, b"\n")
 }
 
 // `count` is that of the tokens or of the records.

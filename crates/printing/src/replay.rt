@@ -1,11 +1,11 @@
-// One text in all modes but `Word`, and walked by a reader too. A list answers otherwise where it has no room for the text's records, so
-// it is made at several lengths.
+// One text walked with the tokens' digits and underscores, by `next` and by a reader, listed and cut. A list answers otherwise where it has
+// no room for the text's records, so it is made at several lengths.
 use crate::MOST;
+use crate::answers::Way;
 use crate::blocks::first;
 use crate::blocks::least;
 use crate::blocks::put_cut_block;
 use crate::blocks::put_list_block;
-use crate::blocks::put_read_block;
 use crate::blocks::put_walk_block;
 use lexer::cursor::Cursor;
 use lists::list::LONGEST_TEXT;
@@ -24,8 +24,8 @@ pub(crate) fn put_replay(
 ) -> usize
     ensures { λ r. ⌜ Within (now (out .exit)) r ⌝ }
 {
-    let walked = put_walk_block(out, at, names, text, offset);
-    let read = put_read_block(out, walked, names, text, offset);
+    let walked = put_walk_block(out, at, names, text, offset, Way::Sums);
+    let read = put_walk_block(out, walked, names, text, offset, Way::Reader);
     let small = put_small(out, read, text, offset, numbers);
     let near = put_near(out, small, text, offset, numbers);
     put_cut_block(out, near, text, offset)

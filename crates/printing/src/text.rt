@@ -1,4 +1,5 @@
 // Standard input as one text.
+use crate::answers::Way;
 use crate::answers::put_walk;
 use crate::kinds::all_names;
 use crate::records::fill;
@@ -24,6 +25,6 @@ pub fn print_text() {
         flush(&out, end);
         return;
     }
-    let end = put_walk(&mut out, 0, &names, &text[..n], 0, false);
+    let end = put_walk(&mut out, 0, &names, &text[..n], 0, Way::Next);
     flush(&out, end);
 }

@@ -34,6 +34,9 @@ fn plain_mode(word: &[u8]) -> Asked {
     if check::same(word, b"next") {
         return Asked::For(Mode::Next);
     }
+    if check::same(word, b"sums") {
+        return Asked::For(Mode::Sums);
+    }
     if check::same(word, b"cut") {
         return Asked::For(Mode::Cut);
     }

@@ -1,4 +1,4 @@
-// sqlbatch MODE: what `next`, a list of N numbers, the cut or the word's lookup answers for each record of standard input.
+// sqlbatch MODE: what `next`, also with sums, a list of N numbers, the cut or the word's lookup answers for each record of standard input.
 mod arguments;
 
 use crate::arguments::Asked;
@@ -10,7 +10,7 @@ fn main() {
     let Asked::For(mode) = read_arguments() else {
         io::write_all(
             STDOUT_FILENO,
-            b"sqlbatch MODE, where MODE is next, list N (N from 0 to 196605), cut or word\n",
+            b"sqlbatch MODE, where MODE is next, sums, list N (N from 0 to 196605), cut or word\n",
         );
         return;
     };

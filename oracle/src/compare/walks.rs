@@ -1,4 +1,5 @@
-//! Texts for Next: by rules of many sorts, then all texts over small alphabets; real SQL apart.
+//! Texts for Next: by rules of many sorts, then all texts over small alphabets; real SQL apart. Every other run of the program is asked
+//! for the tokens' digits and underscores too.
 
 use super::alphabets::{ALL_BYTES, ALPHABETS};
 use super::damage::{damage, SPECIAL};
@@ -7,7 +8,7 @@ use super::random::Random;
 use super::{lexemes, makers, statements};
 use crate::modes::Mode;
 
-const NEXT: fn(u64) -> Mode = |_| Mode::Next;
+const NEXT: fn(u64) -> Mode = |piece| if piece % 2 == 0 { Mode::Sums } else { Mode::Next };
 
 pub fn families(plan: Plan) -> Vec<Family> {
     let share = plan.count / 16;

@@ -14,16 +14,16 @@ use Rattle.printing.proofs.answers.put_walk.Statement.{statement}
 use Rattle.printing.proofs.answers.put_walk.Tie as tie
 
 -- behind a token the cursor has moved on, and not out of the text
-advances : (s : List ℕ) (at : ℕ) {k start n : ℕ} {r : Lexed} {next : Cursor} → r ≡ Token k start n next → Lexes s at r
+advances : (s : List ℕ) (at : ℕ) {k start n d u : ℕ} {r : Lexed} {next : Cursor} → r ≡ Token k start n next d u → Lexes s at r
     → (at < next .at) × (next .at ≤ length s)
-advances s at e h = moves s at _ _ _ _ (subst (Lexes s at) e h)
+advances s at e h = moves s at _ _ _ _ _ _ (subst (Lexes s at) e h)
 
 abbrev Inv-loop : tie.InvT-loop
-Inv-loop out₀ at names text offset by-reader cursor₀ end₀ tokens₀ out cursor end tokens =
+Inv-loop out₀ at names text offset way cursor₀ end₀ tokens₀ out cursor end tokens =
     (length out ≡ length out₀) × (tokens ≤ cursor .at)
 
 abbrev μ-loop : tie.MeasureT-loop
-μ-loop out₀ at names text offset by-reader cursor₀ end₀ tokens₀ out cursor end tokens = length text - cursor .at
+μ-loop out₀ at names text offset way cursor₀ end₀ tokens₀ out cursor end tokens = length text - cursor .at
 
 loop-holds : tie.Need-loop-holds Inv-loop μ-loop
 loop-holds c = search needs
@@ -37,29 +37,26 @@ enum-known-kind c = search needs
 put-token-requires : tie.Need-put-token-requires Inv-loop μ-loop
 put-token-requires c κs = search needs
 
+put-counts-requires : tie.Need-put-counts-requires Inv-loop μ-loop
+put-counts-requires c κs = search needs
+
+-- where the token is known, and how far the cursor moves
+abbrev known : tie.After-slice-known3 Inv-loop μ-loop → tie.After-kind Inv-loop μ-loop
+known c = c .before .before .before .before .before .before .before .before .before
+
+moved : (c : tie.After-slice-known3 Inv-loop μ-loop)
+    → (known c .before .before .before .loop .cursor .at < known c .kind .given .0 .1 .1 .1 .0 .at)
+    × (known c .kind .given .0 .1 .1 .1 .0 .at ≤ length (known c .before .before .before .before .before .before .args .text .now))
+moved c = advances _ _ (known c .kind .given .1) (known c .before .before .lexed-at .ensures)
+
 add-tokens : tie.Need-add-tokens Inv-loop μ-loop
-add-tokens c =
-    let t = c .before .before .before .before .before .before .before .before .before .before .before .args .text .now in
-    let l = c .before .before .before .before .before .before .before in
-    let e = c .before .before .before .before .before .kind .given .1 in
-    let h = advances t (l .before .loop .cursor .at) e (l .lexed-at .ensures) in
-    omega arith
+add-tokens c = let h = moved c in omega arith
 
 loop-less : tie.Need-loop-less Inv-loop μ-loop
-loop-less c =
-    let t = c .before .before .before .before .before .before .before .before .before .before .before .args .text .now in
-    let l = c .before .before .before .before .before .before .before in
-    let e = c .before .before .before .before .before .kind .given .1 in
-    let h = advances t (l .before .loop .cursor .at) e (l .lexed-at .ensures) in
-    omega arith
+loop-less c = let h = moved c in omega arith
 
 loop-again : tie.Need-loop-again Inv-loop μ-loop
-loop-again c =
-    let t = c .before .before .before .before .before .before .before .before .before .before .before .args .text .now in
-    let l = c .before .before .before .before .before .before .before in
-    let e = c .before .before .before .before .before .kind .given .1 in
-    let h = advances t (l .before .loop .cursor .at) e (l .lexed-at .ensures) in
-    search needs
+loop-again c = let h = moved c in search needs
 
 enum-known-next : tie.Need-enum-known-next Inv-loop μ-loop
 enum-known-next c = search needs
@@ -95,6 +92,7 @@ put-walk-spec =
     lexed-at-requires
     enum-known-kind
     put-token-requires
+    put-counts-requires
     add-tokens
     loop-less
     loop-again
