@@ -10,6 +10,7 @@ pub mod Unique
 pub mod Lexemes
 pub mod Theorems
 pub mod Tokens
+pub mod Sums
 pub mod Unrecognized
 pub mod Equal
 pub mod TextLaws

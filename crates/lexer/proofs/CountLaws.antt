@@ -2,7 +2,7 @@
 use Prim.Native.Nat.{ℕ, zero, suc, _+_, _-_, _≤_}
 use native.Mathlib.Omega.{arith}
 use mathlib.Core.Path.{_≡_, refl, sym, _∙_, ap, subst}
-use mathlib.Core.Bool.{true, false, true≢false}
+use mathlib.Core.Bool.{true, false}
 use mathlib.Core.List.{List, [], _∷_, _++_}
 use lib.ListN.{length, getD, take, drop, length-take}
 use lib.Seq.{drop-drop, take-nil}
@@ -13,7 +13,7 @@ use Rattle.grammar.specs.Form.{Set, D, H, no, _or_, oneOf, holds}
 use Rattle.grammar.specs.Answers.{count, isHex, integerDigits}
 use Rattle.grammar.specs.Runs.{char, sees, part}
 use Rattle.grammar.proofs.Seen.{inside, inside-holds, seen-in, seen-holds}
-use Rattle.grammar.proofs.Counts.{count-append, count-few}
+use Rattle.grammar.proofs.Counts.{count-append, count-few, none-before}
 use Rattle.grammar.proofs.Places.{Only, Counted, Hex}
 use Rattle.lexer.specs.declared.digits.Digits.{Digits}
 use Rattle.lexer.specs.declared.digits.Digits.the-variants.{Read, Bad}
@@ -109,7 +109,7 @@ no-hex (a ∷ b ∷ w) e =
 pub decimal-digits : {s : List ℕ} {from at n u : ℕ} → Only (D or oneOf "_") s from at → Counted D s from at n u → integerDigits (part s from at) ≡ n
 decimal-digits {s} {from} {at} o c = rw (no-hex (part s from at) o) (c .digits)
 
--- The digits of a hexadecimal one are the H behind `0x`, in which is no underscore.
+-- The digits of a hexadecimal one are the H behind `0x`.
 take-hex : (k : ℕ) (l : List ℕ) → isHex (take (suc (suc k)) l) ≡ isHex l
 take-hex k [] = refl
 take-hex k (a ∷ []) = refl
@@ -119,14 +119,6 @@ drop-take : (k : ℕ) (l : List ℕ) → drop 2 (take (suc (suc k)) l) ≡ take 
 drop-take k [] = sym (take-nil k)
 drop-take k (a ∷ []) = sym (take-nil k)
 drop-take k (a ∷ b ∷ l) = refl
-
-none-before : (w : List ℕ) → isHex w ≡ true → count (oneOf "_") w ≡ count (oneOf "_") (drop 2 w)
-none-before [] e = absurd (true≢false (sym e))
-none-before (a ∷ []) e = absurd (true≢false (sym e))
-none-before (a ∷ b ∷ w) e =
-    let zero-in = inside-holds (char "0") (no (oneOf "_")) refl a (and-left (is "0" a) _ e) in
-    let x-in = inside-holds (char "x" or char "X") (no (oneOf "_")) refl b (and-right (is "0" a) _ e) in
-    rw (not-true (holds (oneOf "_") a) zero-in, not-true (holds (oneOf "_") b) x-in)
 
 module _ {s : List ℕ} {from i at n u : ℕ} (p : Hex s from i) (o : i ≤ at) (c : Counted H s i at n u) where
   abbrev more : ℕ

@@ -1,20 +1,23 @@
 -- For readers. `unique`: two answers of `next` that meet its contract are equal. `table-lexed`: `next` answers what the grammar's table
--- says. `not-all-refused`, `not-all-of-kind`: whatever meets the contract gives tokens, and not all of one kind. `moves` (Moves.antt): a
--- token leads on, inside the text. Assumes nothing.
+-- says. `counted`: what is known of a token's digits and underscores. `not-all-refused`, `not-all-of-kind`: whatever meets the contract gives
+-- tokens, and not all of one kind. `moves` (Moves.antt): a token leads on, inside the text. Assumes nothing.
 use Prim.Native.Nat.{ℕ, _<_, zero-le, suc-le-suc}
 use mathlib.Core.Path.{_≡_, refl, sym, _∙_, ap, subst}
 use mathlib.Core.Bool.{true, true≢false}
 use mathlib.Core.List.{List, [], _∷_}
 use lib.Dec.{T, eqb, eqb-refl}
-use lib.ListN.{length, getD}
+use lib.ListN.{length, getD, drop}
 use Rattle.keywords.specs.Kinds.{kind}
 use Rattle.keywords.specs.Text.{bytes}
-use Rattle.grammar.specs.Classes.{rules}
+use Rattle.grammar.specs.Classes.{Class, rules}
 use Rattle.grammar.specs.Answers.{Answer, token, end, refusal, isRefusal}
-use Rattle.grammar.specs.Longest.{Every, Gives}
+use Rattle.grammar.specs.Longest.{Every, Longest, Gives}
 use Rattle.grammar.specs.Texts.{Row, offset, Walks, num, table}
 use Rattle.grammar.proofs.Unique.{gives-unique}
 use Rattle.grammar.proofs.TextLaws.{texts}
+use Rattle.grammar.proofs.Tokens.{told}
+use Rattle.grammar.proofs.Sums.{Sums, sums}
+use Rattle.lexer.specs.declared.cursor.Cursor.{Cursor}
 use Rattle.lexer.specs.declared.lexed.Refusal.{Refusal}
 use Rattle.lexer.specs.declared.lexed.Refusal.the-variants.{UnrecognizedToken, UnterminatedLiteral, BadNumber, BadFractionalPart}
 use Rattle.lexer.specs.declared.lexed.Refusal.the-variants.{BadExponentPart, MalformedHexInteger, ExpectedEqualsSign, OffsetPastEnd}
@@ -55,6 +58,14 @@ lexed-back (Refused why start length next) = ap (λ (w : Refusal). Refused w sta
 pub unique : (s : List ℕ) (at : ℕ) (r q : Lexed) → Lexes s at r → Lexes s at q → r ≡ q
 unfolding Lexes
 unique s at r q g h = sym (lexed-back r) ∙ ap lexedOf (gives-unique rules s at (valuesOf r) (valuesOf q) g h) ∙ lexed-back q
+
+-- A token has a class, and the digits and underscores that a lexeme of it can have.
+pub counted : (s : List ℕ) (at k start n : ℕ) (next : Cursor) (d u : ℕ) → Lexes s at (Token k start n next d u)
+    → (c : Class) × Longest rules (drop at s) c n × Sums c n d u
+unfolding Lexes
+counted s at k start n next d u g =
+    let t = told s at k start n (next .at) d u g in
+    (t .class, t .longest, sums s at k start n (next .at) d u g)
 
 -- whatever meets the contract, asked again where each answer goes on, answers so
 abbrev pub Tells : List ℕ → ℕ → List Answer → Type 0

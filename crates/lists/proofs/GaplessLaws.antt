@@ -49,7 +49,7 @@ run-ends s to there (inr (inr (h, (c, n, x, e)))) other = inr (inr (n, (c, bad, 
     bad =
         split (malformed c)
         (λ m. m)
-        (λ m. let (k, d, u, f) = whole-token c to w m in absurd (other (legal k to (length w) d u) (e ∙ f)))
+        (λ m. let (k, d, u, f, x) = whole-token c to w m in absurd (other (legal k to (length w) d u) (e ∙ f)))
 
 -- a walk that passes every lexeme
 pub always-ends : (s : List ℕ) (from : ℕ) (w : Walk Always s from) → RunEnds s (w .to) (w .there)
