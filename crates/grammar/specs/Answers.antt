@@ -37,7 +37,7 @@ abbrev pub count : Set → List ℕ → ℕ
 count s [] = 0
 count s (b ∷ w) = cond (holds s b) (suc (count s w)) (count s w)
 
--- a sum is a number of 32 bits: this many, or more
+-- the most that a sum says, which is a number of 32 bits: so many, or more
 abbrev pub most : ℕ
 most = 4294967295
 

@@ -1,10 +1,10 @@
 -- How many digits and underscores a number has before a place. Assumes nothing.
-use Prim.Native.Nat.{ℕ, zero, suc, _+_, _-_, _≤_}
+use Prim.Native.Nat.{ℕ, suc, _+_, _-_, _≤_}
 use native.Mathlib.Omega.{arith}
 use mathlib.Core.Path.{_≡_, refl, sym, _∙_, ap, subst}
 use mathlib.Core.Bool.{true, false}
-use mathlib.Core.List.{List, [], _∷_, _++_}
-use lib.ListN.{length, getD, take, drop, length-take}
+use mathlib.Core.List.{List, [], _∷_}
+use lib.ListN.{getD, take, drop, length-take}
 use lib.Seq.{drop-drop, take-nil}
 use borrow.Author.Tests.{not-true}
 use Rattle.keywords.proofs.Logic.{split, and-left, and-right, and-false, every}
@@ -18,9 +18,9 @@ use Rattle.grammar.proofs.Places.{Only, Counted, Hex}
 use Rattle.lexer.specs.declared.digits.Digits.{Digits}
 use Rattle.lexer.specs.declared.digits.Digits.the-variants.{Read, Bad}
 use Rattle.lexer.specs.Eaten.{tally, groups}
-use Rattle.lexer.proofs.SpanLaws.{part-snoc}
+use Rattle.lexer.proofs.SpanLaws.{tail, seen, part-snoc}
 
--- digits that are no underscore
+-- digits and underscores are not the same
 pub record Apart (t : Set) : Type 0 where
   pub digit : inside t t ≡ true
   pub digit-out : inside t (no (oneOf "_")) ≡ true
@@ -38,7 +38,7 @@ hex-apart = record { digit = refl; digit-out = refl; line = refl; line-out = ref
 pub counted-none : (t : Set) (s : List ℕ) (at : ℕ) → Counted t s at at 0 0
 counted-none t s at = let n : at - at ≡ 0 = omega arith in record { digits = rw n; underscores = rw n }
 
--- a byte of the set v on
+-- behind a byte of the set v
 module _ (t : Set) {s : List ℕ} {from at n u : ℕ} (o : from ≤ at) (p : Counted t s from at n u) (v : Set) (h : sees v (drop at s) ≡ true) where
   abbrev next : ℕ
   next = getD s at 0
@@ -61,30 +61,22 @@ module _ (t : Set) {s : List ℕ} {from at n u : ℕ} (o : from ≤ at) (p : Cou
   pub counted-other : inside v (no t) ≡ true → inside v (no (oneOf "_")) ≡ true → Counted t s from (at + 1) n u
   counted-other i j = record { digits = outside t i ∙ p .digits; underscores = outside (oneOf "_") j ∙ p .underscores }
 
--- a run of digits on
+-- behind a run of digits
 module _ {t : Set} (apart : Apart t) (s : List ℕ) (from : ℕ) where
   abbrev Told : Digits → Type 0
   Told (Read a) = Counted t s from (a .cursor .at) (a .digits) (a .underscores)
   Told (Bad g e) = Unit {0}
-
-  module _ (i b : ℕ) (l : List ℕ) (e : drop i s ≡ b ∷ l) where
-    tail : drop (i + 1) s ≡ l
-    tail = sym (drop-drop 1 i s) ∙ ap (drop 1) e
-
-    seen : (w : Set) → holds w b ≡ true → sees w (drop i s) ≡ true
-    unfolding sees
-    seen w h = rw e h
 
   counts : (l : List ℕ) (g i n u : ℕ) → drop i s ≡ l → from ≤ i → Counted t s from i n u → Told (groups t g i n u l)
   unfolding groups
   counts [] g i n u e o p = p
   counts (b ∷ l) g i n u e o p =
       split (holds t b)
-      (λ x. rw x (counts l g (i + 1) (n + 1) u (tail i b l e) (omega arith) (counted-digit t o p t (seen i b l e t x) (apart .digit) (apart .digit-out))))
+      (λ x. rw x (counts l g (i + 1) (n + 1) u (tail s i b l e) (omega arith) (counted-digit t o p t (seen s i b l e t x) (apart .digit) (apart .digit-out))))
       (λ x. split (holds (char "_") b)
       (λ z. split (sees t l)
-      (λ f. rw (x, z, f) (counts l (i + 1) (i + 1) n (u + 1) (tail i b l e) (omega arith)
-      (counted-line t o p (char "_") (seen i b l e (char "_") z) (apart .line-out) (apart .line))))
+      (λ f. rw (x, z, f) (counts l (i + 1) (i + 1) n (u + 1) (tail s i b l e) (omega arith)
+      (counted-line t o p (char "_") (seen s i b l e (char "_") z) (apart .line-out) (apart .line))))
       (λ f. rw (x, z, f) tt))
       (λ z. rw (x, z) p))
 

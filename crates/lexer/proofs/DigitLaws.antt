@@ -1,11 +1,10 @@
 -- A run of digits read by states: from one that digits lead back to, over one behind `_`. Assumes nothing.
-use Prim.Native.Nat.{ℕ, _+_, _-_, _≤_, _<_}
+use Prim.Native.Nat.{ℕ, _+_, _≤_, _<_}
 use native.Mathlib.Omega.{arith}
-use mathlib.Core.Path.{_≡_, refl, sym, _∙_, ap, subst}
+use mathlib.Core.Path.{_≡_, refl, sym, subst}
 use mathlib.Core.Bool.{true, false, _&&_}
 use mathlib.Core.List.{List, [], _∷_}
 use lib.ListN.{length, drop}
-use lib.Seq.{drop-drop}
 use Rattle.keywords.proofs.Logic.{split}
 use Rattle.grammar.specs.Form.{Set, no, holds}
 use Rattle.grammar.specs.Runs.{char, sees}
@@ -17,7 +16,7 @@ use Rattle.lexer.specs.declared.digits.Digits.{Digits}
 use Rattle.lexer.specs.declared.digits.Digits.the-variants.{Read, Bad}
 use Rattle.lexer.specs.Eaten.{cursor, tally, groups}
 use Rattle.grammar.proofs.Places.{Only, Group}
-use Rattle.lexer.proofs.SpanLaws.{only-snoc, group-digit, group-start}
+use Rattle.lexer.proofs.SpanLaws.{tail, seen, missed, only-snoc, group-digit, group-start}
 
 -- what digits of t and `_` between them do: digits lead back to q, `_` to u, from where a digit leads back and nothing else goes on;
 -- v is a set that has them all
@@ -54,40 +53,28 @@ Result t v s from i q k (Read a) = After t v s from i (a .cursor .at) q
 Result t v s from i q k (Bad g c) = Stuck t s from i (g .at) (c .at) k
 
 module _ {t v : Set} {q u : State} {k : ℕ} (run : Run t v q u k) (s : List ℕ) (from : ℕ) where
-  module _ (i b : ℕ) (l : List ℕ) (e : drop i s ≡ b ∷ l) where
-    tail : drop (i + 1) s ≡ l
-    tail = sym (drop-drop 1 i s) ∙ ap (drop 1) e
-
-    seen : (w : Set) → holds w b ≡ true → sees w (drop i s) ≡ true
-    unfolding sees
-    seen w h = rw e h
-
-    missed : (w : Set) → holds w b ≡ false → sees w (drop i s) ≡ false
-    unfolding sees
-    missed w h = rw e h
-
   reads-digits : (base : ℕ) (l : List ℕ) (g i n m : ℕ) → drop i s ≡ l → Reads s from i q → Only v s from i → Group t s from g i → base ≤ g → g ≤ i
       → Result t v s from base q k (groups t g i n m l)
   unfolding groups sees
   reads-digits base [] g i n m e p o r a h = record { reads = p; only = o; digit = rw e; line = rw e; up = omega arith }
   reads-digits base (b ∷ l) g i n m e p o r a h =
       split (holds t b)
-      (λ x. let y = seen i b l e t x in
-      rw x (reads-digits base l g (i + 1) (n + 1) m (tail i b l e) (reads-eat p t q (run .digit) y (sym (moved-one t s i y)))
+      (λ x. let y = seen s i b l e t x in
+      rw x (reads-digits base l g (i + 1) (n + 1) m (tail s i b l e) (reads-eat p t q (run .digit) y (sym (moved-one t s i y)))
       (only-snoc v s from i (p .ordered) t (run .digits-in) y o) (group-digit t s from i (p .ordered) g y r) a (omega arith)))
-      (λ x. let y = missed i b l e t x in
+      (λ x. let y = missed s i b l e t x in
       split (holds (char "_") b)
-      (λ z. let w = seen i b l e (char "_") z in
+      (λ z. let w = seen s i b l e (char "_") z in
       let under = reads-eat p (char "_") u (run .line) w (sym (moved-one (char "_") s i w)) in
       split (sees t l)
-      (λ f. let j : sees t (drop (i + 1) s) ≡ true = rw (tail i b l e) f in
-      rw (x, z, f) (reads-digits base l (i + 1) (i + 1) n (m + 1) (tail i b l e) (reads-joined under q t q (run .back) j)
+      (λ f. let j : sees t (drop (i + 1) s) ≡ true = rw (tail s i b l e) f in
+      rw (x, z, f) (reads-digits base l (i + 1) (i + 1) n (m + 1) (tail s i b l e) (reads-joined under q t q (run .back) j)
       (only-snoc v s from i (p .ordered) (char "_") (run .line-in) w o)
       (group-start t s from i (p .ordered) (char "_") (run .apart) w) (omega arith) (omega arith)))
-      (λ f. let j : sees t (drop (i + 1) s) ≡ false = rw (tail i b l e) f in
+      (λ f. let j : sees t (drop (i + 1) s) ≡ false = rw (tail s i b l e) f in
       let ends = reads-stop under t k (run .stop) (run .rule) j in
       rw (x, z, f) (record { ends = ends; line = i; last = refl; group = r; up = a; inside = h; text = seen-in (char "_") s i w })))
-      (λ z. rw (x, z) (record { reads = p; only = o; digit = y; line = missed i b l e (char "_") z; up = omega arith })))
+      (λ z. rw (x, z) (record { reads = p; only = o; digit = y; line = missed s i b l e (char "_") z; up = omega arith })))
 
   module _ {i : ℕ} (p : Reads s from i q) (o : Only v s from i) (r : Group t s from i i) (n m : ℕ) where
     pub digits-after : {e d x : ℕ} → Read (tally e d x) ≡ groups t i i n m (drop i s) → After t v s from i e q

@@ -1,11 +1,11 @@
 -- Where spans begin: the first byte of a set in a lexeme, and the last group of digits. Assumes nothing.
 use Prim.Native.Nat.{ℕ, suc, _+_, _-_, _≤_, _<_}
 use native.Mathlib.Omega.{arith}
-use mathlib.Core.Path.{_≡_, refl, _∙_, ap}
+use mathlib.Core.Path.{_≡_, refl, sym, _∙_, ap}
 use mathlib.Core.Bool.{Bool, true, false, not}
 use mathlib.Core.List.{List, [], _∷_, _++_}
 use lib.ListN.{length, getD, take, drop, length-drop}
-use lib.Seq.{take-suc, take-take, split-at, getD-take, getD-drop, length-take-le}
+use lib.Seq.{drop-drop, take-suc, take-take, split-at, getD-take, getD-drop, length-take-le}
 use borrow.Author.Tests.{not-true, ne-eqb}
 use Rattle.keywords.proofs.Logic.{and-left, and-right, every}
 use Rattle.grammar.specs.Form.{Set, any, no, holds}
@@ -13,6 +13,19 @@ use Rattle.grammar.specs.Answers.{first, afterLast, init}
 use Rattle.grammar.specs.Runs.{sees, part, moved}
 use Rattle.grammar.proofs.Seen.{inside, inside-holds, moved-one, seen-in, seen-holds}
 use Rattle.grammar.proofs.Places.{Only, Group}
+
+-- a byte and what is behind it
+module _ (s : List ℕ) (i b : ℕ) (l : List ℕ) (e : drop i s ≡ b ∷ l) where
+  pub tail : drop (i + 1) s ≡ l
+  tail = sym (drop-drop 1 i s) ∙ ap (drop 1) e
+
+  pub seen : (w : Set) → holds w b ≡ true → sees w (drop i s) ≡ true
+  unfolding sees
+  seen w h = rw e h
+
+  pub missed : (w : Set) → holds w b ≡ false → sees w (drop i s) ≡ false
+  unfolding sees
+  missed w h = rw e h
 
 -- parts
 module _ (s : List ℕ) (from at : ℕ) (o : from ≤ at) where

@@ -11,7 +11,7 @@ pub(crate) struct Tally {
     pub(crate) underscores: usize,
 }
 
-// Read: behind the run. Bad: a span, from where the last group starts.
+// Read: behind the run, which is counted. Bad: a span, from where the last group starts.
 pub(crate) enum Digits {
     Read(Tally),
     Bad(Cursor, Cursor),

@@ -1,14 +1,12 @@
 -- `lexer::numbers::eat_expo` meets its contract. Assumes nothing.
 use native.Mathlib.Omega.{arith}
-use mathlib.Core.Path.{_∙_, _≡_, sym}
+use mathlib.Core.Path.{_∙_, sym}
 use borrow.Author.Needs.{needs}
 use Rattle.grammar.specs.Form.{D, any}
 use Rattle.grammar.proofs.Seen.{moved-up, optional-up}
 use Rattle.grammar.proofs.Reading.{behind}
 use Rattle.grammar.proofs.Places.{Counted}
 use Rattle.lexer.specs.declared.digits.Tally.{Tally}
-use Rattle.lexer.specs.declared.digits.Digits.the-variants.{Read}
-use Rattle.lexer.specs.Eaten.{digitRun}
 use Rattle.lexer.proofs.CountLaws.{counted-few, counted-run, decimal-apart}
 use Rattle.lexer.proofs.DigitLaws.{After}
 use Rattle.lexer.proofs.NumberLaws.{float-lexed, stuck-lexed}

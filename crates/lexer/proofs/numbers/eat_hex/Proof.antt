@@ -1,6 +1,6 @@
 -- `lexer::numbers::eat_hex` meets its contract. Assumes nothing.
 use native.Mathlib.Omega.{arith}
-use mathlib.Core.Path.{_∙_, _≡_, sym}
+use mathlib.Core.Path.{_∙_, sym}
 use borrow.Author.Needs.{needs}
 use Rattle.grammar.specs.Form.{H, any}
 use Rattle.grammar.proofs.Reading.{behind}
