@@ -72,7 +72,7 @@ pub(crate) fn number(kind: u32, from: Cursor, to: Tally) -> Lexed
     }
 }
 
-// A sum in 32 bits: with two numbers of 64 the Cortex-M4 would call memcpy for each answer.
+// A sum in 32 bits: with two of 64 the Cortex-M4 would copy answers by memcpy, which is not in the library.
 fn sum(n: usize) -> u32
     ensures { λ r. ⌜ r ≡ sum n ⌝ }
 {
