@@ -6,10 +6,11 @@ use mathlib.Core.Bool.{true, false}
 use mathlib.Core.List.{List}
 use lib.ListN.{drop}
 use Rattle.keywords.proofs.Logic.{every}
+use Rattle.grammar.specs.declared.profile.Profile.{Profile}
 use Rattle.grammar.specs.Form.{Set, D, H, C, no, _or_, oneOf, holds}
 use Rattle.grammar.specs.Answers.{afterLast, count, isHex}
 use Rattle.grammar.specs.Runs.{char, sees, seesPair, part, moved}
-use Rattle.grammar.proofs.Reading.{Reads, behind}
+use Rattle.grammar.proofs.Reading.{Reads, ReadsUnder, behind, behindUnder}
 
 -- a byte of the set stands at the place
 abbrev pub At : Set → ℕ → List ℕ → Type 0
@@ -29,31 +30,31 @@ pub record Counted (t : Set) (s : List ℕ) (from to n u : ℕ) : Type 0 where
   pub underscores : count (oneOf "_") (part s from to) ≡ u
 
 -- behind a number's first digit
-pub record Decimal (s : List ℕ) (start at : ℕ) : Type 0 where
-  pub reads : Reads s start at (behind "1")
+pub record Decimal (π : Profile) (s : List ℕ) (start at : ℕ) : Type 0 where
+  pub reads : ReadsUnder π s start at (behindUnder π "1")
   pub digits : Only (D or oneOf "_") s start at
   pub run : Group D s start at at
   pub counted : Counted D s start at 1 0
 
 -- at the dot behind a number's digits
-pub record Dot (s : List ℕ) (start at : ℕ) : Type 0 where
+pub record Dot (π : Profile) (s : List ℕ) (start at : ℕ) : Type 0 where
   pub dot : At (char ".") at s
-  pub reads : Reads s start at (behind "1")
+  pub reads : ReadsUnder π s start at (behindUnder π "1")
   pub digits : Only (D or oneOf "_") s start at
 
 -- at the first digit behind a number's dot
-pub record Fraction (s : List ℕ) (start at dot : ℕ) : Type 0 where
+pub record Fraction (π : Profile) (s : List ℕ) (start at dot : ℕ) : Type 0 where
   pub ordered : start ≤ dot
   pub next : at ≡ dot + 1
   pub seen : At (char ".") dot s
-  pub reads : Reads s start at (behind "1.5")
+  pub reads : ReadsUnder π s start at (behindUnder π "1.5")
   pub digits : Only (D or oneOf "_") s start dot
 
 -- at the `e` of a number
-pub record Exponent (s : List ℕ) (start at : ℕ) : Type 0 where
+pub record Exponent (π : Profile) (s : List ℕ) (start at : ℕ) : Type 0 where
   pub ordered : start ≤ at
   pub e : At (char "e" or char "E") at s
-  pub reads : Reads s start (moved at s) (behind "1e")
+  pub reads : ReadsUnder π s start (moved at s) (behindUnder π "1e")
   pub digits : Only (D or oneOf "_.") s start at
 
 -- behind `0x`
@@ -64,7 +65,7 @@ pub record Hex (s : List ℕ) (start at : ℕ) : Type 0 where
   pub run : Group H s start at at
 
 -- behind the identifier bytes and pairs of a parameter's name
-pub record Named (s : List ℕ) (start at : ℕ) : Type 0 where
-  pub reads : Reads s start at (behind "$a")
+pub record Named (π : Profile) (s : List ℕ) (start at : ℕ) : Type 0 where
+  pub reads : ReadsUnder π s start at (behind "$a")
   pub byte : sees C (drop at s) ≡ false
   pub pair : seesPair (drop at s) ≡ false

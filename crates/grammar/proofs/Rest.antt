@@ -62,7 +62,7 @@ minus f (other g) = f but g
 
 abbrev pub less : {f : Form} → View f → Form → Form
 less isNever g = never
-less isEmpty g = minus empty (view g)
+less isEmpty g = cond (nullable g) never empty
 less isAnything g = minus anything (view g)
 less (other f) g = minus f (view g)
 
@@ -101,12 +101,6 @@ minus-has f isEmpty w = Iff·rfl
 minus-has f isAnything w = (λ h. absurd h, λ h. h .1 tt)
 minus-has f (other g) w = Iff·rfl
 
-less-has : {f : Form} (v : View f) (g : Form) (w : List ℕ) → Has (less v g) w ↔ (Has f w × (Has g w → ⊥))
-less-has isNever g w = (λ h. absurd h, λ h. h .0)
-less-has isEmpty g w = minus-has empty (view g) w
-less-has isAnything g w = minus-has anything (view g) w
-less-has (other f) g w = minus-has f (view g) w
-
 -- both parts of an empty text are empty
 empty-parts : (u v : List ℕ) → [] ≡ u ++ v → (u ≡ []) × (v ≡ [])
 empty-parts [] v e = (refl, sym e)
@@ -132,6 +126,15 @@ null-has (f but g) =
     Iff·trans (and-iff (nullable f) (not (nullable g)))
     (both (null-has f) (Iff·trans (not-iff (nullable g)) (contrary (null-has g))))
 null-has (many f) = (λ e. stop, λ h. refl)
+
+less-has : {f : Form} (v : View f) (g : Form) (w : List ℕ) → Has (less v g) w ↔ (Has f w × (Has g w → ⊥))
+less-has isNever g w = (λ h. absurd h, λ h. h .0)
+less-has isEmpty g w =
+    split (nullable g)
+    (λ e. rw e (λ h. absurd h, λ h. h .1 (subst (Has g) (sym (h .0)) (null-has g .0 e))))
+    (λ e. let n = e in rw e (λ h. (h, λ k. true≢false (sym (null-has g .1 (subst (Has g) h k)) ∙ n)), λ h. h .0))
+less-has isAnything g w = minus-has anything (view g) w
+less-has (other f) g w = minus-has f (view g) w
 
 -- w in two parts, the first of which has the form f with b before it
 abbrev After : ℕ → Form → (List ℕ → Type 0) → List ℕ → Type 0

@@ -11,6 +11,9 @@ use borrow.Author.Tests.{eqb-true}
 use Rattle.keywords.proofs.Logic.{split, and-left, and-right}
 use Rattle.words.specs.Bytes.{is, isDigit, isHexdigit}
 use Rattle.grammar.specs.Form.{Set, D, H, no, Form, anything, one, _·_, oneOf, Single, Has}
+use Rattle.grammar.specs.declared.profile.Profile.{Profile}
+use Rattle.grammar.specs.declared.profile.Profile.the-variants.{Turso, Sqlite}
+use Rattle.grammar.specs.Classes
 use Rattle.grammar.specs.Classes.{Class, rules, integer, float}
 use Rattle.grammar.specs.Answers.{token, count, sum, most, integerDigits, isHex}
 use Rattle.grammar.specs.Longest.{Stands, Gives}
@@ -36,40 +39,60 @@ counts-one t w (u, v, e, x, (p, q, f, h, y)) =
     single (b ∷ c ∷ p) h = absurd h
 
 -- the forms of numbers, and as many states as following them finds
-abbrev formOf : Class → Form
-formOf c = ruleAt (only c rules) 0 .form
+abbrev formOf : Profile → Class → Form
+formOf π c = ruleAt (only c (rules π)) 0 .form
 
 abbrev enough : ℕ
 enough = 60
 
 -- A float has a D, and an integer too; one that begins with `0x` has an H behind it.
-float-digits : (s : List ℕ) (n : ℕ) → Stands rules float s n → 0 < count D (take n s)
-unfolding rules isDigit
-float-digits s n h = counts-one D (take n s) (within enough (formOf float) (has D) refl (take n s) (one-rule rules float (formOf float) refl s n .0 h .1))
+float-rule : (π : Profile) → only float (rules π) ≡ Classes._is_ float (formOf π float) ∷ []
+unfolding rules
+float-rule Turso = refl
+float-rule Sqlite = refl
 
-has-hex : (w : List ℕ) → isHex w ≡ true → Has (formOf integer) w → 0 < count H (drop 2 w)
+float-within : (π : Profile) → isWithin enough (formOf π float) (has D) ≡ true
+unfolding rules isDigit
+float-within Turso = refl
+float-within Sqlite = refl
+
+float-digits : (π : Profile) (s : List ℕ) (n : ℕ) → Stands (rules π) float s n → 0 < count D (take n s)
+float-digits π s n h =
+    let form = one-rule (rules π) float (formOf π float) (float-rule π) s n .0 h .1 in
+    counts-one D (take n s) (within enough (formOf π float) (has D) (float-within π) (take n s) form)
+
+-- the forms of integers are the same under each profile
+abbrev integers : Form
+integers = formOf Turso integer
+
+integer-rule : (π : Profile) → only integer (rules π) ≡ Classes._is_ integer integers ∷ []
+unfolding rules
+integer-rule Turso = refl
+integer-rule Sqlite = refl
+
+has-hex : (w : List ℕ) → isHex w ≡ true → Has integers w → 0 < count H (drop 2 w)
 unfolding rules isDigit isHexdigit
 has-hex [] e h = absurd (true≢false (sym e))
 has-hex (a ∷ []) e h = absurd (true≢false (sym e))
 has-hex (a ∷ b ∷ w) e h =
     let zero-is = eqb-true a 48 (and-left (is "0" a) _ e) in
-    let behind-zero = rest-has 48 (formOf integer) (b ∷ w) .1 (subst (λ (k : ℕ). Has (formOf integer) (k ∷ b ∷ w)) zero-is h) in
+    let behind-zero = rest-has 48 integers (b ∷ w) .1 (subst (λ (k : ℕ). Has integers (k ∷ b ∷ w)) zero-is h) in
     split (is "x" b)
-    (λ x. behind 120 refl (subst (λ (k : ℕ). Has (rest 48 (formOf integer)) (k ∷ w)) (eqb-true b 120 x) behind-zero))
+    (λ x. behind 120 refl (subst (λ (k : ℕ). Has (rest 48 integers) (k ∷ w)) (eqb-true b 120 x) behind-zero))
     (λ x. let large = subst (λ (z : Bool). z || is "X" b ≡ true) x (and-right (is "0" a) _ e) in
-    behind 88 refl (subst (λ (k : ℕ). Has (rest 48 (formOf integer)) (k ∷ w)) (eqb-true b 88 large) behind-zero))
+    behind 88 refl (subst (λ (k : ℕ). Has (rest 48 integers) (k ∷ w)) (eqb-true b 88 large) behind-zero))
   where
-    behind : (k : ℕ) → isWithin enough (rest k (rest 48 (formOf integer))) (has H) ≡ true → Has (rest 48 (formOf integer)) (k ∷ w) → 0 < count H w
-    behind k i j = counts-one H w (within enough (rest k (rest 48 (formOf integer))) (has H) i w (rest-has k (rest 48 (formOf integer)) w .1 j))
+    behind : (k : ℕ) → isWithin enough (rest k (rest 48 integers)) (has H) ≡ true → Has (rest 48 integers) (k ∷ w) → 0 < count H w
+    behind k i j = counts-one H w (within enough (rest k (rest 48 integers)) (has H) i w (rest-has k (rest 48 integers) w .1 j))
 
-integer-digits : (s : List ℕ) (n : ℕ) → Stands rules integer s n → 0 < integerDigits (take n s)
+integer-digits : (π : Profile) (s : List ℕ) (n : ℕ) → Stands (rules π) integer s n → 0 < integerDigits (take n s)
 unfolding rules isDigit isHexdigit
-integer-digits s n h =
+integer-digits π s n h =
     let w = take n s in
-    let form = one-rule rules integer (formOf integer) refl s n .0 h .1 in
+    let form : Has integers w = one-rule (rules π) integer integers (integer-rule π) s n .0 h .1 in
     split (isHex w)
     (λ e. rw e (has-hex w e form))
-    (λ e. rw e (counts-one D w (within enough (formOf integer) (has D) refl w form)))
+    (λ e. rw e (counts-one D w (within enough integers (has D) refl w form)))
 
 -- no more digits and underscores than bytes
 number-few : (w : List ℕ) → count D w + count (oneOf "_") w ≤ length w
@@ -98,16 +121,16 @@ of-number m v e p l x y =
 of-other : {c : Class} {n d u : ℕ} → isNumber c ≡ false → d ≡ 0 → u ≡ 0 → Sums c n d u
 of-other e x y = record { within-length = omega arith; some-digit = λ f. absurd (true≢false (sym f ∙ e)); neither = λ _. (x, y) }
 
-sums-of : (c : Class) (s : List ℕ) (n d u : ℕ) → Stands rules c s n → Counts c (take n s) d u → Sums c n d u
-sums-of c s n d u h (inl (e, x, y)) =
+sums-of : (π : Profile) (c : Class) (s : List ℕ) (n d u : ℕ) → Stands (rules π) c s n → Counts c (take n s) d u → Sums c n d u
+sums-of π c s n d u h (inl (e, x, y)) =
     let w = take n s in
     let long = length-take-le n s (h .0) in
-    of-number (integerDigits w) (count (oneOf "_") w) (rw e) (integer-digits s n (subst (λ (k : Class). Stands rules k s n) e h)) (omega (arith, integer-few w)) x y
-sums-of c s n d u h (inr (inl (e, x, y))) =
+    of-number (integerDigits w) (count (oneOf "_") w) (rw e) (integer-digits π s n (subst (λ (k : Class). Stands (rules π) k s n) e h)) (omega (arith, integer-few w)) x y
+sums-of π c s n d u h (inr (inl (e, x, y))) =
     let w = take n s in
     let long = length-take-le n s (h .0) in
-    of-number (count D w) (count (oneOf "_") w) (rw e) (float-digits s n (subst (λ (k : Class). Stands rules k s n) e h)) (omega (arith, number-few w)) x y
-sums-of c s n d u h (inr (inr (e, x, y))) = of-other e x y
+    of-number (count D w) (count (oneOf "_") w) (rw e) (float-digits π s n (subst (λ (k : Class). Stands (rules π) k s n) e h)) (omega (arith, number-few w)) x y
+sums-of π c s n d u h (inr (inr (e, x, y))) = of-other e x y
 
 -- of a token that has not more bytes than a sum says
 all-of : (c : Class) (w : List ℕ) (d u : ℕ) → length w ≤ most → Counts c w d u → CountsAs (λ m. m) c w d u
@@ -116,12 +139,12 @@ all-of c w d u l (inr (inl (e, x, y))) = let few = number-few w in inr (inl (e, 
 all-of c w d u l (inr (inr h)) = inr (inr h)
 
 -- A token's digits and underscores.
-pub sums : (s : List ℕ) (at k start n next d u : ℕ) (g : Gives rules s at (token k start n next d u)) → Sums (told s at k start n next d u g .class) n d u
-sums s at k start n next d u g = let t = told s at k start n next d u g in sums-of (t .class) (drop at s) n d u (t .longest .stands) (t .counts)
+pub sums : (π : Profile) (s : List ℕ) (at k start n next d u : ℕ) (g : Gives (rules π) s at (token k start n next d u)) → Sums (told π s at k start n next d u g .class) n d u
+sums π s at k start n next d u g = let t = told π s at k start n next d u g in sums-of π (t .class) (drop at s) n d u (t .longest .stands) (t .counts)
 
 -- In a token of at most 4294967295 bytes they are counted to the last one.
-pub all-counted : (s : List ℕ) (at k start n next d u : ℕ) (g : Gives rules s at (token k start n next d u)) → n ≤ most
-    → CountsAs (λ m. m) (told s at k start n next d u g .class) (take n (drop at s)) d u
-all-counted s at k start n next d u g l =
-    let t = told s at k start n next d u g in
+pub all-counted : (π : Profile) (s : List ℕ) (at k start n next d u : ℕ) (g : Gives (rules π) s at (token k start n next d u)) → n ≤ most
+    → CountsAs (λ m. m) (told π s at k start n next d u g .class) (take n (drop at s)) d u
+all-counted π s at k start n next d u g l =
+    let t = told π s at k start n next d u g in
     all-of (t .class) (take n (drop at s)) d u (omega (arith, length-take-le n (drop at s) (t .longest .stands .0))) (t .counts)

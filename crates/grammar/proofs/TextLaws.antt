@@ -1,7 +1,7 @@
 -- The tables of texts hold. Assumes nothing.
 use Prim.Native.Nat.{ℕ, zero, suc}
 use mathlib.Core.Path.{_≡_, refl, ap, subst}
-use mathlib.Core.Bool.{Bool, true, false, not, _&&_, _||_}
+use mathlib.Core.Bool.{Bool, true, false, not, cond, _&&_, _||_}
 use mathlib.Core.List.{List, [], _∷_, _++_, map, head-eq-of-cons-eq, tail-eq-of-cons-eq}
 use lib.Dec.{eqb, ltb}
 use lib.ListN.{length, take, drop}
@@ -12,7 +12,9 @@ use Rattle.keywords.proofs.Logic.{and-left, and-right, every}
 use Rattle.words.specs.Bytes.{isDigit, isHexdigit, isIdentifierStart, isIdentifierContinue, isBlank}
 use Rattle.words.specs.Word.{upper, kindOf}
 use Rattle.grammar.specs.Form.{Set, holds, Has}
-use Rattle.grammar.specs.Classes.{Class, Rule, operators, rules}
+use Rattle.grammar.specs.declared.profile.Profile.{Profile}
+use Rattle.grammar.specs.declared.profile.Profile.the-variants.{Turso, Sqlite}
+use Rattle.grammar.specs.Classes.{Class, Rule, by, operators, rules}
 use Rattle.grammar.specs.Refusals.{refusals}
 use Rattle.grammar.specs.Answers.{Answer, token, end, refusal, answer}
 use Rattle.grammar.specs.Longest.{Every, Follows, Stands, Gives}
@@ -29,30 +31,30 @@ use Rattle.grammar.proofs.Lexemes.{next-gives}
 use Rattle.grammar.proofs.Theorems.{sound}
 
 -- a walk as the model computes it
-abbrev walk : ℕ → List ℕ → ℕ → List Answer
-walk zero s at = []
-walk (suc n) s at = next rules s at ∷ walk n s (Texts.offset (next rules s at))
+abbrev walk : Profile → ℕ → List ℕ → ℕ → List Answer
+walk π zero s at = []
+walk π (suc n) s at = next (rules π) s at ∷ walk π n s (Texts.offset (next (rules π) s at))
 
-walk-walks : (s : List ℕ) (l : List Answer) (at : ℕ) → walk (length l) s at ≡ l → Walks rules s at l
-walk-walks s [] at e = tt
-walk-walks s (a ∷ l) at e =
+walk-walks : (π : Profile) (s : List ℕ) (l : List Answer) (at : ℕ) → walk π (length l) s at ≡ l → Walks (rules π) s at l
+walk-walks π s [] at e = tt
+walk-walks π s (a ∷ l) at e =
     let h = head-eq-of-cons-eq e in (
-      subst (Gives rules s at) h (next-gives rules sound s at),
-      walk-walks s l (Texts.offset a) (subst (λ (a : Answer). walk (length l) s (Texts.offset a) ≡ l) h (tail-eq-of-cons-eq e)),
+      subst (Gives (rules π) s at) h (next-gives (rules π) (sound π) s at),
+      walk-walks π s l (Texts.offset a) (subst (λ (a : Answer). walk π (length l) s (Texts.offset a) ≡ l) h (tail-eq-of-cons-eq e)),
     )
 
-computed : map (λ r. walk (length (r .answers)) (r .text) (r .from)) table ≡ map (λ r. r .answers) table
+computed : map (λ r. walk (r .profile) (length (r .answers)) (r .text) (r .from)) table ≡ map (λ r. r .answers) table
 unfolding table rules operators isDigit isHexdigit isIdentifierStart isIdentifierContinue isBlank answer kindOf upper wordList
 computed = refl
 
 -- Next gives what the table says.
-pub texts : Every (λ r. Walks rules (r .text) (r .from) (r .answers)) table
+pub texts : Every (λ r. Walks (rules (r .profile)) (r .text) (r .from) (r .answers)) table
 texts = every-row table computed
   where
-    every-row : (l : List Row) → map (λ r. walk (length (r .answers)) (r .text) (r .from)) l ≡ map (λ r. r .answers) l
-        → Every (λ r. Walks rules (r .text) (r .from) (r .answers)) l
+    every-row : (l : List Row) → map (λ r. walk (r .profile) (length (r .answers)) (r .text) (r .from)) l ≡ map (λ r. r .answers) l
+        → Every (λ r. Walks (rules (r .profile)) (r .text) (r .from) (r .answers)) l
     every-row [] e = tt
-    every-row (r ∷ l) e = (walk-walks (r .text) (r .answers) (r .from) (head-eq-of-cons-eq e), every-row l (tail-eq-of-cons-eq e))
+    every-row (r ∷ l) e = (walk-walks (r .profile) (r .text) (r .answers) (r .from) (head-eq-of-cons-eq e), every-row l (tail-eq-of-cons-eq e))
 
 abbrev isIn : ℕ → List ℕ → Bool
 isIn c [] = false
@@ -68,23 +70,26 @@ pub table-known : every (λ r. every known (r .answers)) table ≡ true
 unfolding table
 table-known = refl
 
--- The table has a lexeme of each class.
-abbrev classOf : Found → List ℕ
-classOf nothing = []
-classOf (found n k) = number (ruleAt rules k .class) ∷ []
+-- The table has a lexeme of each class under each profile.
+abbrev classOf : Profile → Found → List ℕ
+classOf π nothing = []
+classOf π (found n k) = number (ruleAt (rules π) k .class) ∷ []
 
-abbrev classes : ℕ → List ℕ → ℕ → List ℕ
-classes zero s at = []
-classes (suc n) s at = classOf (scan (start rules) (drop at s)) ++ classes n s (Texts.offset (next rules s at))
+abbrev classes : Profile → ℕ → List ℕ → ℕ → List ℕ
+classes π zero s at = []
+classes π (suc n) s at = classOf π (scan (start (rules π)) (drop at s)) ++ classes π n s (Texts.offset (next (rules π) s at))
 
-abbrev tableClasses : List Row → List ℕ
-tableClasses [] = []
-tableClasses (r ∷ l) = classes (length (r .answers)) (r .text) (r .from) ++ tableClasses l
+abbrev isUnder : Profile → Row → Bool
+isUnder π r = by π (by (r .profile) true false) (by (r .profile) false true)
+
+abbrev tableClasses : Profile → List Row → List ℕ
+tableClasses π [] = []
+tableClasses π (r ∷ l) = cond (isUnder π r) (classes π (length (r .answers)) (r .text) (r .from) ++ tableClasses π l) (tableClasses π l)
 
 abbrev hasAll : List ℕ → Bool
 hasAll l = below 27 (λ c. isIn c l)
 
-pub table-classes : hasAll (tableClasses table) ≡ true
+pub table-classes : hasAll (tableClasses Turso table) && hasAll (tableClasses Sqlite table) ≡ true
 unfolding table rules operators isDigit isHexdigit isIdentifierStart isIdentifierContinue isBlank answer kindOf upper wordList
 table-classes = refl
 
@@ -110,22 +115,22 @@ fits-rule c s n r (e, h, f) =
 
 -- no rule does
 abbrev isUnfit : Unfit → Bool
-isUnfit u = every (λ r. not (fits (u .class) (u .text) (u .length) r)) rules
+isUnfit u = every (λ r. not (fits (u .class) (u .text) (u .length) r)) (rules (u .profile))
 
 unfit-computed : every isUnfit unfits ≡ true
 unfolding unfits rules operators isDigit isHexdigit isIdentifierStart isIdentifierContinue isBlank
 unfit-computed = refl
 
 -- What the other table says does not stand does not.
-pub unfit : Every (λ u. Stands rules (u .class) (u .text) (u .length) → ⊥) unfits
+pub unfit : Every (λ u. Stands (rules (u .profile)) (u .class) (u .text) (u .length) → ⊥) unfits
 unfit = every-row unfits unfit-computed
   where
-    row : (u : Unfit) → isUnfit u ≡ true → Stands rules (u .class) (u .text) (u .length) → ⊥
+    row : (u : Unfit) → isUnfit u ≡ true → Stands (rules (u .profile)) (u .class) (u .text) (u .length) → ⊥
     row u e (l, h) =
         let f = fits (u .class) (u .text) (u .length) in
-        let (r, k, t) = some-every (λ r. not (f r)) _ rules e h in
+        let (r, k, t) = some-every (λ r. not (f r)) _ (rules (u .profile)) e h in
         not-iff (f r) .0 t (fits-rule (u .class) (u .text) (u .length) r k)
 
-    every-row : (l : List Unfit) → every isUnfit l ≡ true → Every (λ u. Stands rules (u .class) (u .text) (u .length) → ⊥) l
+    every-row : (l : List Unfit) → every isUnfit l ≡ true → Every (λ u. Stands (rules (u .profile)) (u .class) (u .text) (u .length) → ⊥) l
     every-row [] e = tt
     every-row (u ∷ l) e = (row u (and-left (isUnfit u) (every isUnfit l) e), every-row l (and-right (isUnfit u) (every isUnfit l) e))

@@ -9,6 +9,7 @@ use mathlib.Core.Logic.{_⊎_, inl, inr}
 use lib.Dec.{eqb}
 use lib.ListN.{length, take, drop, length-drop}
 use lib.Seq.{length-take-le}
+use Rattle.grammar.specs.declared.profile.Profile.{Profile}
 use Rattle.grammar.specs.Classes.{Class, malformed, rules, blankRun, lineComment, blockComment, operator, string, quotedName, integer}
 use Rattle.grammar.specs.Classes.{float, blob, parameter, word, illegal, unrecognized, bang, openQuote, openBlob, oddBlob}
 use Rattle.grammar.specs.Classes.{badParameter, underscore, wordAfterInteger, wordAfterFraction, noExponent, wordAfterExponent}
@@ -102,27 +103,27 @@ not-end false c at w a (j, x, y, f, h) offset e = let g = e ∙ f in let z : _�
 not-end true c at w a (j, from, l, to, f) offset e = let g = e ∙ f in let z : _≡_ {A = ℕ} 0 1 = cc in omega arith
 
 -- what a token that Next gives tells
-pub record Told (s : List ℕ) (at k start n next digits underscores : ℕ) : Type 0 where
+pub record Told (π : Profile) (s : List ℕ) (at k start n next digits underscores : ℕ) : Type 0 where
   pub starts : start ≡ at
   pub goes : next ≡ at + n
   pub some : 0 < n
   pub inside : next ≤ length s
   pub class : Class
   pub legal : malformed class ≡ false
-  pub longest : Longest rules (drop at s) class n
+  pub longest : Longest (rules π) (drop at s) class n
   pub gives : token k start n next digits underscores ≡ answer class at (take n (drop at s))
   pub counts : Counts class (take n (drop at s)) digits underscores
 
-pub told : (s : List ℕ) (at k start n next d u : ℕ) → Gives rules s at (token k start n next d u) → Told s at k start n next d u
-told s at k start n next d u (inl (l, e)) = let z : _≡_ {A = ℕ} 0 1 = cc in absurd (omega arith)
-told s at k start n next d u (inr (inl (l, e))) = let z : _≡_ {A = ℕ} 0 1 = cc in absurd (omega arith)
-told s at k start n next d u (inr (inr (l, (c, m, h, e)))) =
+pub told : (π : Profile) (s : List ℕ) (at k start n next d u : ℕ) → Gives (rules π) s at (token k start n next d u) → Told π s at k start n next d u
+told π s at k start n next d u (inl (l, e)) = let z : _≡_ {A = ℕ} 0 1 = cc in absurd (omega arith)
+told π s at k start n next d u (inr (inl (l, e))) = let z : _≡_ {A = ℕ} 0 1 = cc in absurd (omega arith)
+told π s at k start n next d u (inr (inr (l, (c, m, h, e)))) =
     let w = take m (drop at s) in
     let (p, q, r, x) = token-place (malformed c) c at w (answer c at w) (shape c at w) k start n next d u e in
     let t = length-take-le m (drop at s) (h .stands .0) in
     let i = h .stands .0 in
     let b = length-drop at s in
-    let o = Lexemes.positive rules sound (drop at s) c m (h .stands) in
+    let o = Lexemes.positive (rules π) (sound π) (drop at s) c m (h .stands) in
     let n-is : m ≡ n = omega arith in
     record {
       starts = p;
@@ -131,12 +132,12 @@ told s at k start n next d u (inr (inr (l, (c, m, h, e)))) =
       inside = omega arith;
       class = c;
       legal = sym (refuses c at w) ∙ ap isRefusal (sym e);
-      longest = subst (Longest rules (drop at s) c) n-is h;
+      longest = subst (Longest (rules π) (drop at s) c) n-is h;
       gives = e ∙ ap (λ (l : ℕ). answer c at (take l (drop at s))) n-is;
       counts = subst (λ (l : ℕ). Counts c (take l (drop at s)) d u) n-is x;
     }
 
-pub end-told : (s : List ℕ) (at offset : ℕ) → Gives rules s at (end offset) → (at ≡ length s) × (offset ≡ at)
-end-told s at offset (inl (l, e)) = let z : _≡_ {A = ℕ} 0 1 = cc in absurd (omega arith)
-end-told s at offset (inr (inl (l, e))) = (l, cc)
-end-told s at offset (inr (inr (l, (c, m, h, e)))) = let w = take m (drop at s) in absurd (not-end (malformed c) c at w (answer c at w) (shape c at w) offset e)
+pub end-told : (π : Profile) (s : List ℕ) (at offset : ℕ) → Gives (rules π) s at (end offset) → (at ≡ length s) × (offset ≡ at)
+end-told π s at offset (inl (l, e)) = let z : _≡_ {A = ℕ} 0 1 = cc in absurd (omega arith)
+end-told π s at offset (inr (inl (l, e))) = (l, cc)
+end-told π s at offset (inr (inr (l, (c, m, h, e)))) = let w = take m (drop at s) in absurd (not-end (malformed c) c at w (answer c at w) (shape c at w) offset e)

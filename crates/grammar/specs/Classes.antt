@@ -1,9 +1,11 @@
--- The classes of document 01, line by line and in its order: which texts stand in each, and what may follow them there.
--- Assumes nothing.
+-- The classes of document 01, line by line and in its order: which texts stand in each, and what may follow them there. Request 7 has a
+-- second profile, nearer SQLite: what it changes stands beside what document 01 has, in the same line (`by`). Assumes nothing.
 use mathlib.Core.Bool.{Bool, true, false}
 use mathlib.Core.List.{List, [], _∷_}
 use Rattle.keywords.specs.Words.{Entry, entry}
-use Rattle.grammar.specs.Form.{Set, none, D, H, S, C, blank, control, byte, no, _or_, any, _except_, oneOf, Form, never, one, _·_, _∣_, _but_}
+use Rattle.grammar.specs.declared.profile.Profile.{Profile}
+use Rattle.grammar.specs.declared.profile.Profile.the-variants.{Turso, Sqlite}
+use Rattle.grammar.specs.Form.{Set, none, D, H, S, C, blank, control, byte, no, _or_, any, _except_, oneOf, Form, never, empty, one, _·_, _∣_, _but_}
 use Rattle.grammar.specs.Form.{many, text, lit, run, some, opt, through, without}
 
 pub data Class : Type 0 where
@@ -58,6 +60,11 @@ infix 70 _is_before_
 abbrev pub _is_before_ : Class → Form → Set → Rule
 c is f before t = record { class = c; form = f; next = t }
 
+-- what document 01 has, for the profile Turso, and what request 7 has in its place, for Sqlite
+abbrev pub by : {A : Type 0} → Profile → A → A → A
+by Turso a b = a
+by Sqlite a b = b
+
 -- Dig = D+ ( `_` D+ )*
 abbrev pub dig : Form
 dig = some D · many (lit "_" · some D)
@@ -68,9 +75,14 @@ e = one (oneOf "eE")
 abbrev pub sign : Form
 sign = opt (one (oneOf "+-"))
 
--- Exp = `e` or `E`, optional sign, optional `_`, Dig
-abbrev pub exp : Form
-exp = e · sign · opt (lit "_") · dig
+-- Exp = `e` or `E`, optional sign, optional `_`, Dig.
+-- 7: `_` directly after `e` or its sign counts as any other byte that is no digit.
+abbrev pub exp : Profile → Form
+exp p = e · sign · by p (opt (lit "_")) empty · dig
+
+-- a byte that can go on there
+abbrev pub exponentStart : Profile → Set
+exponentStart p = by p (D or oneOf "_") D
 
 abbrev pub x : Form
 x = one (oneOf "xX")
@@ -93,21 +105,26 @@ pieces = many (one C ∣ lit "::")
 abbrev pub pairs : Form
 pairs = many (lit "::")
 
--- `$`, `@` or `:` and the run of a name: C bytes and pairs with at least one C, after `:` beginning with S or a pair
-abbrev pub named : Form
-named = one (oneOf "$@") · (pieces but pairs) ∣ lit ":" · ((one S ∣ lit "::") · pieces but pairs)
+-- `$`, `@` or `:` and the run of a name: C bytes and pairs with at least one C, after `:` beginning with S or a pair.
+-- 7: `:` behaves as `@` does.
+abbrev pub named : Profile → Form
+named p = one (oneOf "$@") · (pieces but pairs) ∣ lit ":" · (by p ((one S ∣ lit "::") · pieces) pieces but pairs)
 
 -- `(` and bytes that are neither `)` nor blank
 abbrev pub paren : Form
 paren = lit "(" · run (no (oneOf ")" or blank))
+
+-- 7: `[` and bytes that are no `]`
+abbrev pub bracket : Form
+bracket = lit "[" · run (no (oneOf "]"))
 
 -- a number up to its `e`: Dig, Dig `.`, Dig `.` Dig or `.` Dig
 abbrev pub front : Form
 front = dig ∣ dig · lit "." ∣ dig · lit "." · dig ∣ lit "." · dig
 
 -- a number that ends in a Dig
-abbrev pub inDig : Form
-inDig = dig ∣ dig · lit "." · dig ∣ lit "." · dig ∣ front · exp
+abbrev pub inDig : Profile → Form
+inDig p = dig ∣ dig · lit "." · dig ∣ lit "." · dig ∣ front · exp p
 
 -- a byte that starts nothing else: controls but blanks, `\ ^ { }`, 7F
 abbrev pub U : Set
@@ -129,9 +146,10 @@ abbrev pub among : List Entry → Form
 among [] = never
 among (o ∷ os) = text (o .word) ∣ among os
 
--- Each comment has the line of document 01 for the rules below it. A rule without `before` says nothing of what follows.
-unfoldable pub rules : List Rule
-rules =
+-- Each comment has the line of document 01 for the rules below it and, behind a 7, the sentence of request 7 that changes them. A rule
+-- without `before` says nothing of what follows.
+unfoldable pub rules : Profile → List Rule
+rules p =
     -- Legal. Blank run; `--` to and with the next 0A or to the end; `/*` to and with the next `*/` that begins after these two
     -- bytes, or to the end.
     blankRun is some blank ∷
@@ -139,44 +157,46 @@ rules =
     lineComment is lit "--" · without "\n" before none ∷
     blockComment is lit "/*" · through "*/" ∷
     blockComment is lit "/*" · without "*/" before none ∷
-    -- Operators.
-    operator is among operators ∷
+    -- Operators. 7: `[` is no operator any more; `:` behaves as `@` does; `&&` is two tokens and `@>` starts with a bare `@`.
+    operator is among operators but by p never (lit "[" ∣ lit ":" ∣ lit "&&" ∣ lit "@>") ∷
     -- `'` body `'`; with `"` or a backtick a name. In the body that quote appears only doubled.
     string is opened (oneOf "'") · lit "'" ∷
-    quotedName is opened (oneOf "\"") · lit "\"" ∣ opened (oneOf "`") · lit "`" ∷
+    -- 7: `[` up to the first `]` is TK_ID.
+    quotedName is opened (oneOf "\"") · lit "\"" ∣ opened (oneOf "`") · lit "`" ∣ by p never (bracket · lit "]") ∷
     -- Integer: Dig; `0x` or `0X` H+ ( `_` H+ )*.
     integer is dig ∣ hexInteger ∷
     -- Float: Dig `.`; Dig `.` Exp; Dig `.` Dig with or without Exp; Dig Exp; `.` Dig with or without Exp.
-    float is dig · lit "." ∣ dig · lit "." · exp ∣ dig · lit "." · dig · opt exp ∣ dig · exp ∣ lit "." · dig · opt exp ∷
+    float is dig · lit "." ∣ dig · lit "." · exp p ∣ dig · lit "." · dig · opt (exp p) ∣ dig · exp p ∣ lit "." · dig · opt (exp p) ∷
     -- Blob: `x` or `X`, `'`, an even number of H, `'`.
     blob is x · lit "'" · many (one H · one H) · lit "'" ∷
     -- Parameter: `?` D*; `$`, `@` or `:` and a name, which ends in at most one `(`...`)` holding no `)` and no blank.
-    parameter is lit "?" · run D ∣ named · opt (paren · lit ")") ∷
+    parameter is lit "?" · run D ∣ named p · opt (paren · lit ")") ∷
     -- Word: S C*.
     word is one S · run C ∷
     -- `#` C*: a token of kind TK_ILLEGAL.
     illegal is lit "#" · run C ∷
     -- Malformed. U: a byte that starts nothing above or below, on to the next blank or the end.
     unrecognized is one U · run (no blank) before blank ∷
-    -- `!` alone. A quote and body never closed.
+    -- `!` alone. A quote and body never closed. 7: unclosed (`[`) is UnterminatedLiteral to the end.
     bang is lit "!" before no (oneOf "=") ∷
-    openQuote is opened (oneOf "'") ∣ opened (oneOf "\"") ∣ opened (oneOf "`") before none ∷
+    openQuote is opened (oneOf "'") ∣ opened (oneOf "\"") ∣ opened (oneOf "`") ∣ by p never bracket before none ∷
     -- `x'` H* with no quote after it. Odd number of H, closed.
     openBlob is x · lit "'" · run H before no (oneOf "'") ∷
     oddBlob is x · lit "'" · one H · many (one H · one H) · lit "'" ∷
     -- `$`, `@` alone or with pairs only; `:` with one or more pairs only; a name whose `(` part meets a blank or the end.
-    badParameter is one (oneOf "$@") · pairs ∣ lit ":" · lit "::" · pairs before no C ∷
-    badParameter is named · paren before blank ∷
+    -- 7: a lone `:` is UnrecognizedToken; `@>` starts with a bare `@`, refused.
+    badParameter is one (oneOf "$@") · pairs ∣ lit ":" · by p (lit "::" · pairs) pairs before no C ∷
+    badParameter is named p · paren before blank ∷
     -- (A trailing S or `_` below belongs to the malformed lexeme even if its span is shorter. In the next five rules the number does
     -- not begin with `0x` or `0X`, since no Dig goes past that 0, and `e` is its first `e` or `E`.)
-    -- `_` after a Dig (or after `e` and sign) with no D next.
-    underscore is (inDig ∣ front · e · sign) · lit "_" before no D ∷
+    -- `_` after a Dig (or after `e` and sign) with no D next. 7: refusal 3 directly after `e` and sign goes.
+    underscore is (inDig p ∣ by p (front · e · sign) never) · lit "_" before no D ∷
     -- Dig and an S that isn't `_`, `e`, `E`, nor `x`/`X` after a lone 0. `.` Dig (or Dig `.` Dig) and such an S (`x` included).
     wordAfterInteger is dig · one (S except oneOf "_eE") but zeroX ∷
     wordAfterFraction is (lit "." · dig ∣ dig · lit "." · dig) · one (S except oneOf "_eE") ∷
-    -- `e` and sign with neither D nor `_` next. An Exp and an S other than `_`.
-    noExponent is front · e · sign before no (D or oneOf "_") ∷
-    wordAfterExponent is front · exp · one (S except oneOf "_") ∷
+    -- `e` and sign with neither D nor `_` next. An Exp and an S other than `_`. 7: `1e_5` and `1e_` are BadExponentPart (1,1).
+    noExponent is front · e · sign before no (exponentStart p) ∷
+    wordAfterExponent is front · exp p · one (S except oneOf "_") ∷
     -- `0x` with neither H nor `_` next. `0x_`. An `_` after a hex integer without H next. Hex integer and an S that is neither
     -- H nor `_`.
     noHexdigit is zeroX before no (H or oneOf "_") ∷

@@ -6,7 +6,8 @@ use mathlib.Core.List.{List, [], _∷_, map}
 use mathlib.Core.Logic.{_⊎_}
 use lib.ListN.{length, take, drop}
 use Rattle.grammar.specs.Form.{Set, holds, Form, Has}
-use Rattle.grammar.specs.Classes.{Class, Rule, _is_}
+use Rattle.grammar.specs.declared.profile.Profile.{Profile}
+use Rattle.grammar.specs.Classes.{Class, Rule, _is_, rules}
 use Rattle.grammar.specs.Answers.{Answer, end, pastEnd, answer}
 
 -- some entry of the list
@@ -52,3 +53,15 @@ Gives rs s at a =
     ((length s < at) × (a ≡ pastEnd at)) ⊎
     ((at ≡ length s) × (a ≡ end at)) ⊎
     ((at < length s) × Lexeme rs (drop at s) at a)
+
+-- a text, and the profile under which it is lexed
+pub record Source : Type 0 where
+  pub profile : Profile
+  pub text : List ℕ
+
+abbrev pub source : Profile → List ℕ → Source
+source p s = record { profile = p; text = s }
+
+-- Next there
+abbrev pub Next : Source → ℕ → Answer → Type 0
+Next s at a = Gives (rules (s .profile)) (s .text) at a

@@ -5,6 +5,8 @@ use Prim.Native.String.{String}
 use mathlib.Core.List.{List, [], _∷_}
 use Rattle.keywords.specs.Kinds.{kind}
 use Rattle.keywords.specs.Text.{bytes}
+use Rattle.grammar.specs.declared.profile.Profile.{Profile}
+use Rattle.grammar.specs.declared.profile.Profile.the-variants.{Turso, Sqlite}
 use Rattle.grammar.specs.Classes.{Class, lineComment, blockComment, unrecognized, bang, openQuote, openBlob, badParameter, underscore}
 use Rattle.grammar.specs.Classes.{noExponent, noHexdigit, hexUnderscore, Rule}
 use Rattle.grammar.specs.Answers.{Answer, token, end, refusal}
@@ -22,13 +24,19 @@ Walks rs s at [] = Unit {0}
 Walks rs s at (a ∷ l) = Gives rs s at a × Walks rs s (offset a) l
 
 pub record Row : Type 0 where
+  pub profile : Profile
   pub text : List ℕ
   pub from : ℕ
   pub answers : List Answer
 
+-- from the beginning: under the profile Turso, and under Sqlite
 infix 70 _gives_
 abbrev pub _gives_ : String → List Answer → Row
-t gives l = record { text = bytes t; from = 0; answers = l }
+t gives l = record { profile = Turso; text = bytes t; from = 0; answers = l }
+
+infix 70 _sqliteGives_
+abbrev pub _sqliteGives_ : String → List Answer → Row
+t sqliteGives l = record { profile = Sqlite; text = bytes t; from = 0; answers = l }
 
 -- a token by its kind's name
 abbrev pub tk : String → ℕ → ℕ → Answer
@@ -62,7 +70,7 @@ table =
     "$a:::b" gives (tk "TK_VARIABLE" 0 4 ∷ tk "TK_VARIABLE" 4 2 ∷ end 6 ∷ []) ∷
     "$a(b c)" gives (refusal 1 0 4 0 ∷ []) ∷
     "#ab" gives (tk "TK_ILLEGAL" 0 3 ∷ end 3 ∷ []) ∷
-    record { text = 0x0B ∷ 0x41 ∷ 0x20 ∷ []; from = 0; answers = refusal 1 0 2 2 ∷ tk "TK_NONE" 2 1 ∷ end 3 ∷ [] } ∷
+    record { profile = Turso; text = 0x0B ∷ 0x41 ∷ 0x20 ∷ []; from = 0; answers = refusal 1 0 2 2 ∷ tk "TK_NONE" 2 1 ∷ end 3 ∷ [] } ∷
     "SELECT 1.e-1;\n" gives
     (tk "TK_SELECT" 0 6 ∷ tk "TK_NONE" 6 1 ∷ num "TK_FLOAT" 7 5 2 0 ∷ tk "TK_SEMI" 12 1 ∷ tk "TK_NONE" 13 1 ∷ end 14 ∷ []) ∷
     -- every operator
@@ -101,18 +109,61 @@ table =
     "1_2.3_4e_5_6" gives (num "TK_FLOAT" 0 12 6 4 ∷ end 12 ∷ []) ∷
     "a1_2" gives (tk "TK_ID" 0 4 ∷ end 4 ∷ []) ∷
     -- from elsewhere than the beginning
-    record { text = bytes "a"; from = 1; answers = end 1 ∷ [] } ∷
-    record { text = bytes "a"; from = 2; answers = refusal 8 0 0 2 ∷ [] } ∷
+    record { profile = Turso; text = bytes "a"; from = 1; answers = end 1 ∷ [] } ∷
+    record { profile = Turso; text = bytes "a"; from = 2; answers = refusal 8 0 0 2 ∷ [] } ∷
+    -- request 7: what it changes
+    "[" sqliteGives (refusal 2 0 1 0 ∷ []) ∷
+    "[]" sqliteGives (tk "TK_ID" 0 2 ∷ end 2 ∷ []) ∷
+    "[a]]" sqliteGives (tk "TK_ID" 0 3 ∷ tk "TK_RBRACKET" 3 1 ∷ end 4 ∷ []) ∷
+    "[a" sqliteGives (refusal 2 0 2 0 ∷ []) ∷
+    "[a 'b" sqliteGives (refusal 2 0 5 0 ∷ []) ∷
+    "]" sqliteGives (tk "TK_RBRACKET" 0 1 ∷ end 1 ∷ []) ∷
+    ":2" sqliteGives (tk "TK_VARIABLE" 0 2 ∷ end 2 ∷ []) ∷
+    ":" sqliteGives (refusal 1 0 1 0 ∷ []) ∷
+    "::a" sqliteGives (refusal 1 0 1 0 ∷ []) ∷
+    ":::a" sqliteGives (tk "TK_VARIABLE" 0 4 ∷ end 4 ∷ []) ∷
+    ":$" sqliteGives (tk "TK_VARIABLE" 0 2 ∷ end 2 ∷ []) ∷
+    ":>" sqliteGives (refusal 1 0 1 0 ∷ []) ∷
+    "&&" sqliteGives (tk "TK_BITAND" 0 1 ∷ tk "TK_BITAND" 1 1 ∷ end 2 ∷ []) ∷
+    "&" sqliteGives (tk "TK_BITAND" 0 1 ∷ end 1 ∷ []) ∷
+    "@>" sqliteGives (refusal 1 0 1 0 ∷ []) ∷
+    "1e_5" sqliteGives (refusal 5 1 1 0 ∷ []) ∷
+    "1e_" sqliteGives (refusal 5 1 1 0 ∷ []) ∷
+    "1e+_1" sqliteGives (refusal 5 1 2 0 ∷ []) ∷
+    "1e_1e" sqliteGives (refusal 5 1 1 0 ∷ []) ∷
+    "1_2" sqliteGives (num "TK_INTEGER" 0 3 2 1 ∷ end 3 ∷ []) ∷
+    "1e1_1" sqliteGives (num "TK_FLOAT" 0 5 3 1 ∷ end 5 ∷ []) ∷
+    "$a::b(c)" sqliteGives (tk "TK_VARIABLE" 0 8 ∷ end 8 ∷ []) ∷
+    -- and what it leaves, so that each class has a lexeme under either profile
+    "a\t--b\n/*c*/'d'x'0f'#e" sqliteGives
+    (tk "TK_ID" 0 1 ∷ tk "TK_NONE" 1 1 ∷ tk "TK_NONE" 2 4 ∷ tk "TK_NONE" 6 5 ∷ tk "TK_STRING" 11 3 ∷ tk "TK_BLOB" 14 5 ∷
+    tk "TK_ILLEGAL" 19 2 ∷ end 21 ∷ []) ∷
+    "{a b" sqliteGives (refusal 1 0 2 2 ∷ tk "TK_NONE" 2 1 ∷ tk "TK_ID" 3 1 ∷ end 4 ∷ []) ∷
+    "!" sqliteGives (refusal 7 0 1 0 ∷ []) ∷
+    "x'1g'" sqliteGives (refusal 2 0 3 0 ∷ []) ∷
+    "x'1'" sqliteGives (refusal 1 0 4 0 ∷ []) ∷
+    "1e5_a" sqliteGives (refusal 3 2 2 0 ∷ []) ∷
+    "1a" sqliteGives (refusal 3 0 1 0 ∷ []) ∷
+    "1.5a" sqliteGives (refusal 4 1 2 0 ∷ []) ∷
+    "1e5a" sqliteGives (refusal 5 1 2 0 ∷ []) ∷
+    "0x" sqliteGives (refusal 6 0 2 0 ∷ []) ∷
+    "0x_1" sqliteGives (refusal 3 2 0 0 ∷ []) ∷
+    "0x1_" sqliteGives (refusal 3 2 2 0 ∷ []) ∷
+    "0x1g" sqliteGives (refusal 3 0 3 0 ∷ []) ∷
     []
 
 -- the first n bytes of a text do not stand in the class
 pub record Unfit : Type 0 where
+  pub profile : Profile
   pub class : Class
   pub text : List ℕ
   pub length : ℕ
 
 abbrev pub unfit : Class → String → ℕ → Unfit
-unfit c t n = record { class = c; text = bytes t; length = n }
+unfit c t n = record { profile = Turso; class = c; text = bytes t; length = n }
+
+abbrev pub sqliteUnfit : Class → String → ℕ → Unfit
+sqliteUnfit c t n = record { profile = Sqlite; class = c; text = bytes t; length = n }
 
 -- one for each condition on what follows
 unfoldable pub unfits : List Unfit
@@ -132,4 +183,7 @@ unfits =
     unfit noHexdigit "0x1" 2 ∷
     unfit noHexdigit "0x_" 2 ∷
     unfit hexUnderscore "0x1_2" 4 ∷
+    sqliteUnfit openQuote "[a]" 2 ∷
+    sqliteUnfit badParameter ":a" 1 ∷
+    sqliteUnfit noExponent "1e5" 2 ∷
     []
