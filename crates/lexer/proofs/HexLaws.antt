@@ -8,6 +8,7 @@ use lib.ListN.{drop}
 use Rattle.keywords.proofs.Logic.{split}
 use Rattle.words.specs.Bytes.{isDigit, isHexdigit, isIdentifierStart, isIdentifierContinue, isBlank}
 use Rattle.grammar.specs.Form.{none, H, S, any, no, _or_, _except_}
+use Rattle.grammar.specs.declared.profile.Profile.the-variants.{Turso}
 use Rattle.grammar.specs.Classes.{operators, rules}
 use Rattle.grammar.specs.Answers.{afterLast, init, answer}
 use Rattle.grammar.specs.Runs.{char, sees, part, moved}
@@ -34,7 +35,7 @@ hex-run = record { digit = refl; line = refl; back = refl; stop = refl; rule = r
 
 -- `_` with no digit next: the span begins with the last group
 module _ {s : List ℕ} {from i g e : ℕ} (r : Lexed) (f : r ≡ Refused BadNumber g (e - g) (cursor from)) where
-  hex-stuck-lexed : from + 2 ≤ i → Stuck H s from i g e hexUnderscoreRule → Lexes s from r
+  hex-stuck-lexed : from + 2 ≤ i → Stuck H Turso s from i g e hexUnderscoreRule → Lexes s from r
   unfolding rules answer
   hex-stuck-lexed h b =
       let z = init-part s from (b .line) (omega arith) e (b .last) (b .text) in
@@ -93,7 +94,7 @@ module _ {s : List ℕ} {from at : ℕ} (p : Hex s from at) (n u : ℕ) where
         (λ h. absurd (let z = b ∙ hex-empty at n u (drop at s) h in let y : _≡_ {A = Bool} true false = cc in true≢false y))
         (λ h. h)
 
-    pub hex-after : (at ≡ e → ⊥) → After H any s from at e (behind "0x1")
+    pub hex-after : (at ≡ e → ⊥) → After H any Turso s from at e (behind "0x1")
     hex-after m =
         split (sees H (drop at s))
         (λ k. digits-after hex-run s from (hex-reads k) (only-any s from at) (p .run) n u (hex-plain b starts))
@@ -115,7 +116,7 @@ pub hex-counted : {s : List ℕ} {from at : ℕ} → Hex s from at → {e d x : 
 hex-counted {s} {from} {at} p b = counted-run hex-apart s at at 0 0 (omega arith) (counted-none H s at) (hex-plain p 0 0 b (starts p 0 0 b))
 
 -- behind hexadecimal digits
-module _ {s : List ℕ} {from i at : ℕ} (a : After H any s from i at (behind "0x1")) where
+module _ {s : List ℕ} {from i at : ℕ} (a : After H any Turso s from i at (behind "0x1")) where
   hex-word : sees S (drop at s) ≡ true → Ends s from (moved at s) wordAfterHexRule
   unfolding behind rules operators isDigit isHexdigit isIdentifierStart isIdentifierContinue isBlank
   hex-word h =

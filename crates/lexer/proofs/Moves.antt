@@ -3,16 +3,17 @@ use Prim.Native.Nat.{ℕ, _≤_, _<_}
 use native.Mathlib.Omega.{arith}
 use mathlib.Core.List.{List}
 use lib.ListN.{length}
+use Rattle.grammar.specs.declared.profile.Profile.{Profile}
 use Rattle.grammar.proofs.Tokens.{told}
 use Rattle.lexer.specs.declared.cursor.Cursor.{Cursor}
 use Rattle.lexer.specs.declared.lexed.Lexed.the-variants.{Token}
-use Rattle.lexer.specs.Values.{Lexes}
+use Rattle.lexer.specs.Values.{LexesUnder}
 
-pub moves : (s : List ℕ) (at k start n : ℕ) (next : Cursor) (d u : ℕ) → Lexes s at (Token k start n next d u)
+pub moves : (π : Profile) (s : List ℕ) (at k start n : ℕ) (next : Cursor) (d u : ℕ) → LexesUnder π s at (Token k start n next d u)
     → (at < next .at) × (next .at ≤ length s)
-unfolding Lexes
-moves s at k start n next d u h =
-    let t = told s at k start n (next .at) d u h in
+unfolding LexesUnder
+moves π s at k start n next d u h =
+    let t = told π s at k start n (next .at) d u h in
     let g = t .goes in
     let p = t .some in
     (omega arith, t .inside)

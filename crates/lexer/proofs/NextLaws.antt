@@ -13,31 +13,37 @@ use Rattle.keywords.specs.Text.{bytes}
 use Rattle.keywords.specs.Words.{kindIn}
 use Rattle.keywords.proofs.Logic.{split}
 use Rattle.words.specs.Bytes.{isDigit, isIdentifierStart, isBlank}
+use Rattle.grammar.specs.declared.profile.Profile.{Profile}
 use Rattle.grammar.specs.Form.{Set, none, D, S, blank, byte, no, _or_, holds}
 use Rattle.grammar.specs.Classes.{operators, U}
 use Rattle.grammar.specs.Runs.{sees}
-use Rattle.grammar.proofs.Seen.{inside-holds, misses-none, moved-one}
+use Rattle.grammar.proofs.Seen.{inside, inside-sees, inside-holds, misses-none, moved-one}
+use Rattle.grammar.proofs.Reading.{alikeFirst, first-alike}
 use Rattle.lexer.specs.declared.cursor.Peek.the-variants.{Byte, Nothing}
 use Rattle.lexer.specs.declared.lexed.Refusal.the-variants.{OffsetPastEnd}
 use Rattle.lexer.specs.declared.lexed.Lexed.{Lexed}
 use Rattle.lexer.specs.declared.lexed.Lexed.the-variants.{Token, End, Refused}
 use Rattle.lexer.specs.Eaten.{cursor, head}
 use Rattle.grammar.proofs.Places.{At}
-use Rattle.lexer.specs.Values.{Lexes}
+use Rattle.lexer.specs.Values.{valuesOf, Lexes, LexesUnder}
 use Rattle.lexer.proofs.EatLaws.{head-sees}
 use Rattle.lexer.proofs.OperatorLaws.{follow, isOperator, isColon, one-lexed}
 
 -- past the end, and at the end
-pub past-lexed : (s : List ℕ) (at : ℕ) → length s < at → Lexes s at (Refused OffsetPastEnd 0 0 (cursor at))
-unfolding Lexes
-past-lexed s at h = inl (h, refl)
+pub past-lexed : (π : Profile) (s : List ℕ) (at : ℕ) → length s < at → LexesUnder π s at (Refused OffsetPastEnd 0 0 (cursor at))
+unfolding LexesUnder
+past-lexed π s at h = inl (h, refl)
 
-pub end-lexed : (s : List ℕ) (at : ℕ) → at ≤ length s → Nothing ≡ head (drop at s) → Lexes s at (End (cursor at))
-unfolding Lexes head
-end-lexed s at h e =
+pub end-lexed : (π : Profile) (s : List ℕ) (at : ℕ) → at ≤ length s → Nothing ≡ head (drop at s) → LexesUnder π s at (End (cursor at))
+unfolding LexesUnder head
+end-lexed π s at h e =
     split (ltb at (length s))
     (λ l. absurd (let z = e ∙ ap head (drop-cons s at 0 (ltb-true at (length s) l)) in let y : _≡_ {A = Bool} true false = cc in true≢false y))
     (λ l. let k = ltb-false at (length s) l in inr (inl (omega arith, refl)))
+
+-- an answer under the profile that is known
+pub under : {p r : Profile} → p ≡ r → (s : List ℕ) (at : ℕ) (x : Lexed) → LexesUnder r s at x → LexesUnder p s at x
+under e s at x l = subst (λ (p : Profile). LexesUnder p s at x) (sym e) l
 
 -- the byte that is seen
 pub key-seen : (k b : ℕ) (l : List ℕ) → sees (byte b) l ≡ true → b ≡ k → sees (byte k) l ≡ true
@@ -51,14 +57,22 @@ unfolding sees
 byte-in t b [] h e = absurd (true≢false (sym h))
 byte-in t b (x ∷ l) h e = rw (eqb-true x b h) e
 
+-- where the first byte leaves the same under both profiles, so does the answer
+pub lift : (t : Set) → inside t alikeFirst ≡ true → (π : Profile) (s : List ℕ) (at : ℕ) → At t at s → (r : Lexed) → Lexes s at r → LexesUnder π s at r
+unfolding LexesUnder
+lift t i π s at h r g = first-alike π s at (valuesOf r) (inside-sees t alikeFirst i (drop at s) h) g
+
+pub key-lift : (k b : ℕ) (π : Profile) (s : List ℕ) (at : ℕ) → At (byte b) at s → b ≡ k → inside (byte k) alikeFirst ≡ true → (r : Lexed) → Lexes s at r → LexesUnder π s at r
+key-lift k b π s at h e i r g = lift (byte k) i π s at (key-seen k b (drop at s) h e) r g
+
 -- an operator of one byte that nothing makes longer, at the byte of an arm
-pub key-lexed : (k b : ℕ) (s : List ℕ) (at : ℕ) → At (byte b) at s → b ≡ k
-    → isColon (k ∷ []) ≡ false → isOperator (k ∷ []) operators ≡ true → follow (k ∷ []) ≡ none
-    → (r : Lexed) → r ≡ Token (kindIn operators (k ∷ [])) at 1 (cursor (at + 1)) 0 0 → Lexes s at r
-key-lexed k b s at h e n o f r q =
+pub key-lexed : (k b : ℕ) (π : Profile) (s : List ℕ) (at : ℕ) → At (byte b) at s → b ≡ k
+    → inside (byte k) alikeFirst ≡ true → isColon (k ∷ []) ≡ false → isOperator (k ∷ []) operators ≡ true → follow (k ∷ []) ≡ none
+    → (r : Lexed) → r ≡ Token (kindIn operators (k ∷ [])) at 1 (cursor (at + 1)) 0 0 → LexesUnder π s at r
+key-lexed k b π s at h e i n o f r q =
     let seen = key-seen k b (drop at s) h e in
     let d : 1 ≡ at + 1 - at = omega arith in
-    one-lexed k s at seen (sym (moved-one (byte k) s at seen)) n o (rw f (misses-none _)) r (q ∙ rw (← d))
+    lift (byte k) i π s at seen r (one-lexed k s at seen (sym (moved-one (byte k) s at seen)) n o (rw f (misses-none _)) r (q ∙ rw (← d)))
 
 -- a byte is none of these
 abbrev Apart : ℕ → List ℕ → Type 0

@@ -14,6 +14,7 @@ use Rattle.keywords.proofs.SameLaws.{same-true}
 use Rattle.keywords.proofs.Logic.{split, and-left, and-right, every}
 use Rattle.words.specs.Bytes.{isDigit, isHexdigit, isIdentifierStart, isIdentifierContinue, isBlank}
 use Rattle.grammar.specs.Form.{Set, none, D, blank, byte, no, _or_}
+use Rattle.grammar.specs.declared.profile.Profile.the-variants.{Turso, Sqlite}
 use Rattle.grammar.specs.Classes.{operators, rules}
 use Rattle.grammar.specs.Answers.{answer}
 use Rattle.grammar.specs.Runs.{char, sees, moved, over}
@@ -21,14 +22,14 @@ use Rattle.grammar.proofs.States.{start, after, met}
 use Rattle.grammar.proofs.Seen.{moved-end, over-stops, at-end, misses-none, inside-misses}
 use Rattle.grammar.proofs.Scan.{goes, along}
 use Rattle.grammar.proofs.RulePlaces.{blankRunRule, closedLineRule, openLineRule, closedBlockRule, openBlockRule, operatorRule, bangRule}
-use Rattle.grammar.proofs.Reading.{Reads, Ends, Spelled, behind, begin, reads-eat, reads-while, reads-join, reads-stop}
+use Rattle.grammar.proofs.Reading.{Reads, Ends, EndsUnder, Spelled, behind, begin, reads-eat, reads-while, reads-join, reads-stop}
 use Rattle.grammar.proofs.Reading.{spelled-first, spelled-more, spelled-reads, spelled-part, reads-end}
 use Rattle.lexer.specs.declared.lexed.Lexed.{Lexed}
 use Rattle.lexer.specs.declared.lexed.Lexed.the-variants.{Token, Refused}
 use Rattle.lexer.specs.declared.lexed.Refusal.the-variants.{ExpectedEqualsSign}
 use Rattle.lexer.specs.Eaten.{cursor}
 use Rattle.grammar.proofs.Places.{At}
-use Rattle.lexer.specs.Values.{Lexes}
+use Rattle.lexer.specs.Values.{Lexes, LexesUnder}
 use Rattle.lexer.proofs.EatLaws.{Reached}
 use Rattle.lexer.proofs.AnswerLaws.{token-lexes, whole-lexes}
 
@@ -69,7 +70,7 @@ one-is k (j ∷ i ∷ l) e = absurd (true≢false (sym e))
 
 -- some rule is met behind each byte of w, behind the last that of the operators, and only the bytes of `follow` go on
 abbrev fits : List ℕ → Bool
-fits w = along (start rules) w && goes (after (start rules) w) (no (follow w)) [] && isOne operatorRule (met (after (start rules) w))
+fits w = along (start (rules Turso)) w && goes (after (start (rules Turso)) w) (no (follow w)) [] && isOne operatorRule (met (after (start (rules Turso)) w))
 
 abbrev pub isColon : List ℕ → Bool
 isColon w = same w (bytes ":")
@@ -101,8 +102,8 @@ module _ {s : List ℕ} {from at : ℕ} {w : List ℕ} (p : Spelled s from at w)
   operator-ends : Ends s from at operatorRule
   operator-ends =
       let f = operator-fits w operators n all-fit o in
-      let q = after (start rules) w in
-      let a = along (start rules) w in
+      let q = after (start (rules Turso)) w in
+      let a = along (start (rules Turso)) w in
       let g = goes q (no (follow w)) [] in
       let h = and-left (a && g) (isOne operatorRule (met q)) f in
       reads-stop (spelled-reads p (and-left a g h)) (follow w) operatorRule (and-right a g h) (one-is operatorRule (met q) (and-right (a && g) (isOne operatorRule (met q)) f)) m
@@ -182,3 +183,13 @@ module _ {s : List ℕ} {from at : ℕ} (p : Spelled s from at (bytes "!")) (h :
   pub bang-lexed : (r : Lexed) → r ≡ Refused ExpectedEqualsSign from (at - from) (cursor from) → Lexes s from r
   unfolding rules answer
   bang-lexed r q = whole-lexes bang-ends ExpectedEqualsSign r refl q
+
+-- `&` where the profile has nothing that makes it longer
+module _ {s : List ℕ} {from at : ℕ} (p : Spelled s from at (bytes "&")) where
+  and-ends : EndsUnder Sqlite s from at operatorRule
+  unfolding rules operators isDigit isHexdigit isIdentifierStart isIdentifierContinue isBlank
+  and-ends = reads-stop (spelled-reads p refl) none operatorRule refl refl (misses-none _)
+
+  pub and-lexed : (r : Lexed) → r ≡ Token (kind "TK_BITAND") from (at - from) (cursor at) 0 0 → LexesUnder Sqlite s from r
+  unfolding rules answer operators
+  and-lexed r q = token-lexes and-ends (kind "TK_BITAND") r (rw (spelled-part p)) q

@@ -7,9 +7,12 @@ use lib.Dec.{eqb}
 use lib.ListN.{drop}
 use borrow.Author.Tests.{eqb-true, eqb-false}
 use Rattle.keywords.specs.Kinds.{kind}
+use Rattle.keywords.specs.Text.{bytes}
 use Rattle.keywords.proofs.Logic.{split}
 use Rattle.words.specs.Bytes.{isDigit, isHexdigit, isIdentifierStart, isIdentifierContinue, isBlank}
 use Rattle.grammar.specs.Form.{none, H, byte, no, _or_, any, oneOf, holds}
+use Rattle.grammar.specs.declared.profile.Profile.{Profile}
+use Rattle.grammar.specs.declared.profile.Profile.the-variants.{Turso, Sqlite}
 use Rattle.grammar.specs.Classes.{operators, rules}
 use Rattle.grammar.specs.Answers.{answer}
 use Rattle.grammar.specs.Runs.{char, sees, moved, over}
@@ -17,23 +20,23 @@ use Rattle.grammar.proofs.States.{State, start, after, met}
 use Rattle.grammar.proofs.Seen.{misses-none, at-end, over-stops, misses-or, misses-any}
 use Rattle.grammar.proofs.Scan.{goes, meets, along, alternate, alternate-even, alternate-odd}
 use Rattle.grammar.proofs.RulePlaces.{stringRule, quotedNameRule, blobRule, openQuoteRule, openBlobRule, oddBlobRule}
-use Rattle.grammar.proofs.Reading.{Reads, Ends, behind, spelled-first, spelled-reads, reads-alternate, reads-eat}
+use Rattle.grammar.proofs.Reading.{Reads, ReadsUnder, Ends, EndsUnder, Spelled, behind, behindUnder, spelled-first, spelled-reads, reads-alternate, reads-eat}
 use Rattle.grammar.proofs.Reading.{reads-while, reads-join, reads-stop, reads-end}
 use Rattle.lexer.specs.declared.lexed.Refusal.the-variants.{UnrecognizedToken, UnterminatedLiteral}
 use Rattle.lexer.specs.declared.lexed.Lexed.{Lexed}
 use Rattle.lexer.specs.declared.lexed.Lexed.the-variants.{Token, Refused}
 use Rattle.lexer.specs.Eaten.{cursor, quoteKind}
 use Rattle.grammar.proofs.Places.{At}
-use Rattle.lexer.specs.Values.{Lexes}
+use Rattle.lexer.specs.Values.{Lexes, LexesUnder}
 use Rattle.lexer.proofs.EatLaws.{Reached}
 use Rattle.lexer.proofs.AnswerLaws.{token-lexes, whole-lexes}
 
 -- in a body that the quote q opens, and behind a q in it
 unfoldable pub inQuote : ℕ → State
-inQuote q = after (start rules) (q ∷ [])
+inQuote q = after (start (rules Turso)) (q ∷ [])
 
 unfoldable pub outQuote : ℕ → State
-outQuote q = after (start rules) (q ∷ q ∷ [])
+outQuote q = after (start (rules Turso)) (q ∷ q ∷ [])
 
 -- the rule of what q closes
 abbrev closed : ℕ → ℕ
@@ -43,7 +46,7 @@ abbrev pub isQuote : ℕ → Bool
 isQuote q = holds (oneOf "'\"`") q
 
 record Quote (q : ℕ) : Type 0 where
-  first : along (start rules) (q ∷ []) ≡ true
+  first : along (start (rules Turso)) (q ∷ []) ≡ true
   body : goes (inQuote q) (no (byte q)) (inQuote q) && meets (inQuote q) ≡ true
   again : goes (outQuote q) (byte q) (inQuote q) && meets (inQuote q) ≡ true
   close : goes (inQuote q) (byte q) (outQuote q) && meets (outQuote q) ≡ true
@@ -91,8 +94,8 @@ module _ (q : ℕ) (i : isQuote q ≡ true) {s : List ℕ} {from : ℕ} where
   pub quote-again : {at d : ℕ} → Reads s from at (outQuote q) → sees (byte q) (drop at s) ≡ true → d ≡ moved at s → Reads s from d (inQuote q)
   quote-again p h f = reads-eat p (byte q) (inQuote q) (quote q i .again) h f
 
-pub open-lexed : {s : List ℕ} {from at : ℕ} → Ends s from at openQuoteRule → (r : Lexed) → r ≡ Refused UnterminatedLiteral from (at - from) (cursor from)
-    → Lexes s from r
+pub open-lexed : {π : Profile} {s : List ℕ} {from at : ℕ} → EndsUnder π s from at openQuoteRule → (r : Lexed)
+    → r ≡ Refused UnterminatedLiteral from (at - from) (cursor from) → LexesUnder π s from r
 unfolding rules answer
 open-lexed e r f = whole-lexes e UnterminatedLiteral r refl f
 
@@ -147,3 +150,23 @@ module _ {s : List ℕ} {from at : ℕ} (r : Lexed) where
   pub blob-lexed : Ends s from at blobRule → r ≡ Token (kind "TK_BLOB") from (at - from) (cursor at) 0 0 → Lexes s from r
   unfolding rules answer
   blob-lexed e f = token-lexes e (kind "TK_BLOB") r refl f
+
+-- `[` up to the first `]`, which is a name under the profile Sqlite
+module _ {s : List ℕ} {from at : ℕ} (p : Spelled s from at (bytes "[")) where
+  in-bracket : {d : ℕ} → d ≡ over (no (char "]")) at s → ReadsUnder Sqlite s from d (behindUnder Sqlite "[")
+  unfolding behindUnder rules operators isDigit isHexdigit isIdentifierStart isIdentifierContinue isBlank
+  in-bracket f = reads-while (spelled-reads p refl) (no (char "]")) refl f
+
+  pub bracket-open : {d : ℕ} → d ≡ over (no (char "]")) at s → sees (char "]") (drop d s) ≡ false → EndsUnder Sqlite s from d openQuoteRule
+  unfolding behindUnder rules operators isDigit isHexdigit isIdentifierStart isIdentifierContinue isBlank
+  bracket-open f h = reads-end (in-bracket f) openQuoteRule refl (at-end (char "]") _ h (over-stops _ _ _ _ f))
+
+  pub bracket-closed : {d : ℕ} → Reached 93 s at d → EndsUnder Sqlite s from d quotedNameRule
+  unfolding behindUnder rules operators isDigit isHexdigit isIdentifierStart isIdentifierContinue isBlank
+  bracket-closed r =
+      reads-stop (reads-eat (in-bracket (r .run)) (char "]") (behindUnder Sqlite "[]") refl (r .seen) (r .next)) none quotedNameRule refl refl (misses-none _)
+
+pub bracket-lexed : {s : List ℕ} {from at : ℕ} → EndsUnder Sqlite s from at quotedNameRule → (r : Lexed)
+    → r ≡ Token (kind "TK_ID") from (at - from) (cursor at) 0 0 → LexesUnder Sqlite s from r
+unfolding rules answer
+bracket-lexed e r f = token-lexes e (kind "TK_ID") r refl f

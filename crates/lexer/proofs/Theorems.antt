@@ -9,6 +9,8 @@ use lib.Dec.{T, eqb, eqb-refl}
 use lib.ListN.{length, getD, drop}
 use Rattle.keywords.specs.Kinds.{kind}
 use Rattle.keywords.specs.Text.{bytes}
+use Rattle.grammar.specs.declared.profile.Profile.{Profile}
+use Rattle.grammar.specs.declared.profile.Profile.the-variants.{Turso}
 use Rattle.grammar.specs.Classes.{Class, rules}
 use Rattle.grammar.specs.Answers.{Answer, token, end, refusal, isRefusal}
 use Rattle.grammar.specs.Longest.{Every, Longest, Gives}
@@ -24,7 +26,7 @@ use Rattle.lexer.specs.declared.lexed.Refusal.the-variants.{BadExponentP
 use Rattle.lexer.specs.declared.lexed.Lexed.{Lexed}
 use Rattle.lexer.specs.declared.lexed.Lexed.the-variants.{Token, End, Refused}
 use Rattle.lexer.specs.Eaten.{cursor}
-use Rattle.lexer.specs.Values.{numberOf, valuesOf, Lexes}
+use Rattle.lexer.specs.Values.{numberOf, valuesOf, Lexes, LexesUnder}
 
 -- An answer can be read back from its values.
 abbrev pub refusalOf : ℕ → Refusal
@@ -55,35 +57,35 @@ lexed-back (End next) = refl
 lexed-back (Refused why start length next) = ap (λ (w : Refusal). Refused w start length next) (refusal-back why)
 
 -- The contract of `next` leaves one answer.
-pub unique : (s : List ℕ) (at : ℕ) (r q : Lexed) → Lexes s at r → Lexes s at q → r ≡ q
-unfolding Lexes
-unique s at r q g h = sym (lexed-back r) ∙ ap lexedOf (gives-unique rules s at (valuesOf r) (valuesOf q) g h) ∙ lexed-back q
+pub unique : (π : Profile) (s : List ℕ) (at : ℕ) (r q : Lexed) → LexesUnder π s at r → LexesUnder π s at q → r ≡ q
+unfolding LexesUnder
+unique π s at r q g h = sym (lexed-back r) ∙ ap lexedOf (gives-unique (rules π) s at (valuesOf r) (valuesOf q) g h) ∙ lexed-back q
 
 -- A token has a class, and the digits and underscores that a lexeme of it can have.
-pub counted : (s : List ℕ) (at k start n : ℕ) (next : Cursor) (d u : ℕ) → Lexes s at (Token k start n next d u)
-    → (c : Class) × Longest rules (drop at s) c n × Sums c n d u
-unfolding Lexes
-counted s at k start n next d u g =
-    let t = told s at k start n (next .at) d u g in
-    (t .class, t .longest, sums s at k start n (next .at) d u g)
+pub counted : (π : Profile) (s : List ℕ) (at k start n : ℕ) (next : Cursor) (d u : ℕ) → LexesUnder π s at (Token k start n next d u)
+    → (c : Class) × Longest (rules π) (drop at s) c n × Sums c n d u
+unfolding LexesUnder
+counted π s at k start n next d u g =
+    let t = told π s at k start n (next .at) d u g in
+    (t .class, t .longest, sums π s at k start n (next .at) d u g)
 
 -- whatever meets the contract, asked again where each answer goes on, answers so
-abbrev pub Tells : List ℕ → ℕ → List Answer → Type 0
-Tells s at [] = Unit {0}
-Tells s at (a ∷ l) = ((r : Lexed) → Lexes s at r → valuesOf r ≡ a) × Tells s (offset a) l
+abbrev pub Tells : Profile → List ℕ → ℕ → List Answer → Type 0
+Tells π s at [] = Unit {0}
+Tells π s at (a ∷ l) = ((r : Lexed) → LexesUnder π s at r → valuesOf r ≡ a) × Tells π s (offset a) l
 
-walks-tell : (s : List ℕ) (l : List Answer) (at : ℕ) → Walks rules s at l → Tells s at l
-unfolding Lexes
-walks-tell s [] at w = tt
-walks-tell s (a ∷ l) at w = (λ r g. gives-unique rules s at (valuesOf r) a g (w .0), walks-tell s l (offset a) (w .1))
+walks-tell : (π : Profile) (s : List ℕ) (l : List Answer) (at : ℕ) → Walks (rules π) s at l → Tells π s at l
+unfolding LexesUnder
+walks-tell π s [] at w = tt
+walks-tell π s (a ∷ l) at w = (λ r g. gives-unique (rules π) s at (valuesOf r) a g (w .0), walks-tell π s l (offset a) (w .1))
 
 -- The rows of the grammar's table hold of `next`.
-pub table-lexed : Every (λ r. Tells (r .text) (r .from) (r .answers)) table
+pub table-lexed : Every (λ r. Tells (r .profile) (r .text) (r .from) (r .answers)) table
 table-lexed = every-row table texts
   where
-    every-row : (l : List Row) → Every (λ r. Walks rules (r .text) (r .from) (r .answers)) l → Every (λ r. Tells (r .text) (r .from) (r .answers)) l
+    every-row : (l : List Row) → Every (λ r. Walks (rules (r .profile)) (r .text) (r .from) (r .answers)) l → Every (λ r. Tells (r .profile) (r .text) (r .from) (r .answers)) l
     every-row [] e = tt
-    every-row (r ∷ l) e = (walks-tell (r .text) (r .answers) (r .from) (e .0), every-row l (e .1))
+    every-row (r ∷ l) e = (walks-tell (r .profile) (r .text) (r .answers) (r .from) (e .0), every-row l (e .1))
 
 -- a token is of this kind
 abbrev pub OfKind : ℕ → Answer → Type 0
@@ -91,11 +93,11 @@ OfKind k (token kind start length next digits underscores) = kind ≡ k
 OfKind k (end at) = Unit {0}
 OfKind k (refusal number start length at) = Unit {0}
 
--- whatever meets the contract everywhere
+-- whatever meets the contract everywhere, under document 01's profile
 module _ (f : List ℕ → ℕ → Lexed) (meets : (s : List ℕ) (at : ℕ) → Lexes s at (f s at)) where
-  answers : (s : List ℕ) (at : ℕ) (a : Answer) → Gives rules s at a → valuesOf (f s at) ≡ a
-  unfolding Lexes
-  answers s at a g = gives-unique rules s at (valuesOf (f s at)) a (meets s at) g
+  answers : (s : List ℕ) (at : ℕ) (a : Answer) → Gives (rules Turso) s at a → valuesOf (f s at) ≡ a
+  unfolding LexesUnder
+  answers s at a g = gives-unique (rules Turso) s at (valuesOf (f s at)) a (meets s at) g
 
   float-first : valuesOf (f (bytes "1.a") 0) ≡ num "TK_FLOAT" 0 2 1 0
   unfolding table

@@ -1,6 +1,8 @@
 -- What each case of an answer of `next` says, in document 01's numbers, and what `next` owes. Assumes nothing.
 use Prim.Native.Nat.{ℕ}
 use mathlib.Core.List.{List}
+use Rattle.grammar.specs.declared.profile.Profile.{Profile}
+use Rattle.grammar.specs.declared.profile.Profile.the-variants.{Turso}
 use Rattle.grammar.specs.Classes.{rules}
 use Rattle.grammar.specs.Refusals.{refusalNumber}
 use Rattle.grammar.specs.Answers.{Answer, token, end, refusal}
@@ -28,6 +30,10 @@ valuesOf (Token kind start length next digits underscores) = token kind start le
 valuesOf (End next) = end (next .at)
 valuesOf (Refused why start length next) = refusal (numberOf why) start length (next .at)
 
--- the answer r is what document 01 gives at an offset of the text
-unfoldable pub Lexes : List ℕ → ℕ → Lexed → Type 0
-Lexes s at r = Gives rules s at (valuesOf r)
+-- the answer r is what Next gives under the profile at an offset of the text
+unfoldable pub LexesUnder : Profile → List ℕ → ℕ → Lexed → Type 0
+LexesUnder p s at r = Gives (rules p) s at (valuesOf r)
+
+-- what it gives under document 01's: owed by the private functions whose lexemes are the same under both
+abbrev pub Lexes : List ℕ → ℕ → Lexed → Type 0
+Lexes = LexesUnder Turso

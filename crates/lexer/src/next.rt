@@ -22,7 +22,10 @@ use crate::operators::eat_white_space;
 use crate::parameters::eat_colon_or_var;
 use crate::parameters::eat_named_var;
 use crate::parameters::eat_numbered_var;
+use crate::quoted::eat_bracketed;
 use crate::quoted::eat_lit_or_id;
+use grammar::profile::Profile;
+use keywords::kinds::TK_BITAND;
 use keywords::kinds::TK_BITNOT;
 use keywords::kinds::TK_COMMA;
 use keywords::kinds::TK_LBRACKET;
@@ -39,12 +42,13 @@ ghost use mathlib.Core.Bool.{false};
 ghost use Rattle.words.specs.Bytes.{isBlank};
 ghost use Rattle.grammar.specs.Form.{D, S, byte, _or_};
 ghost use Rattle.grammar.specs.Classes.{U};
+ghost use Rattle.grammar.specs.Runs.{char};
 ghost use Rattle.grammar.proofs.Places.{At};
-ghost use Rattle.lexer.specs.Values.{Lexes};
+ghost use Rattle.lexer.specs.Values.{LexesUnder};
 
 // Past the end a refusal, at the end End, else what the longest lexeme here answers.
-pub fn next(text: &[u8], cursor: Cursor) -> Lexed
-    ensures { λ r. ⌜ Lexes (now (text .entry)) (cursor .at) r ⌝ }
+pub fn next(text: &[u8], cursor: Cursor, profile: Profile) -> Lexed
+    ensures { λ r. ⌜ LexesUnder profile (now (text .entry)) (cursor .at) r ⌝ }
 {
     let at = cursor.at;
     if text.len() < at {
@@ -61,13 +65,13 @@ pub fn next(text: &[u8], cursor: Cursor) -> Lexed
     if is_blank(b) {
         return eat_white_space(text, cursor);
     }
-    eat_lexeme(text, cursor, b)
+    eat_lexeme(text, cursor, b, profile)
 }
 
 // By the first byte, which is no blank.
-fn eat_lexeme(text: &[u8], start: Cursor, b: u8) -> Lexed
+fn eat_lexeme(text: &[u8], start: Cursor, b: u8, profile: Profile) -> Lexed
     requires { ⌜ At (byte b) (start .at) (now text) × (isBlank b ≡ false) ⌝ }
-    ensures { λ r. ⌜ Lexes (now (text .entry)) (start .at) r ⌝ }
+    ensures { λ r. ⌜ LexesUnder profile (now (text .entry)) (start .at) r ⌝ }
 {
     match b {
         b'-' => eat_minus_or_comment_or_ptr(text, start),
@@ -84,32 +88,73 @@ fn eat_lexeme(text: &[u8], start: Cursor, b: u8) -> Lexed
         b'!' => eat_ne(text, start),
         b'|' => eat_concat_or_bitor(text, start),
         b',' => eat_one_token(text, start, TK_COMMA),
-        b'&' => eat_overlap_or_bitand(text, start),
+        b'&' => eat_and(text, start, profile),
         b'~' => eat_one_token(text, start, TK_BITNOT),
         b'\'' => eat_lit_or_id(text, start, b),
         b'"' => eat_lit_or_id(text, start, b),
         b'`' => eat_lit_or_id(text, start, b),
-        b'.' => eat_dot_or_frac(text, start),
-        b'[' => eat_one_token(text, start, TK_LBRACKET),
+        b'.' => eat_dot_or_frac(text, start, profile),
+        b'[' => eat_bracket(text, start, profile),
         b']' => eat_one_token(text, start, TK_RBRACKET),
-        b'@' => eat_array_contains_or_var(text, start),
+        b'@' => eat_at(text, start, profile),
         b'?' => eat_numbered_var(text, start),
         b'$' => eat_named_var(text, start, start.eat(text)),
         b'#' => eat_illegal(text, start),
-        b':' => eat_colon_or_var(text, start),
-        _ => eat_number_or_name(text, start),
+        b':' => eat_colon(text, start, profile),
+        _ => eat_number_or_name(text, start, profile),
     }
 }
 
-fn eat_number_or_name(text: &[u8], start: Cursor) -> Lexed
+fn eat_number_or_name(text: &[u8], start: Cursor, profile: Profile) -> Lexed
     requires { ⌜ At (D or S or U) (start .at) (now text) ⌝ }
-    ensures { λ r. ⌜ Lexes (now (text .entry)) (start .at) r ⌝ }
+    ensures { λ r. ⌜ LexesUnder profile (now (text .entry)) (start .at) r ⌝ }
 {
     if start.sees_digit(text) {
-        return eat_number(text, start);
+        return eat_number(text, start, profile);
     }
     if start.sees_start(text) {
         return eat_blob_or_id(text, start);
     }
     eat_unrecognized(text, start)
+}
+
+// Where the profiles part by the first byte: `&`, `[`, `@` and `:`.
+fn eat_and(text: &[u8], start: Cursor, profile: Profile) -> Lexed
+    requires { ⌜ At (char "&") (start .at) (now text) ⌝ }
+    ensures { λ r. ⌜ LexesUnder profile (now (text .entry)) (start .at) r ⌝ }
+{
+    match profile {
+        Profile::Turso => eat_overlap_or_bitand(text, start),
+        Profile::Sqlite => eat_one_token(text, start, TK_BITAND),
+    }
+}
+
+fn eat_bracket(text: &[u8], start: Cursor, profile: Profile) -> Lexed
+    requires { ⌜ At (char "[") (start .at) (now text) ⌝ }
+    ensures { λ r. ⌜ LexesUnder profile (now (text .entry)) (start .at) r ⌝ }
+{
+    match profile {
+        Profile::Turso => eat_one_token(text, start, TK_LBRACKET),
+        Profile::Sqlite => eat_bracketed(text, start),
+    }
+}
+
+fn eat_at(text: &[u8], start: Cursor, profile: Profile) -> Lexed
+    requires { ⌜ At (char "@") (start .at) (now text) ⌝ }
+    ensures { λ r. ⌜ LexesUnder profile (now (text .entry)) (start .at) r ⌝ }
+{
+    match profile {
+        Profile::Turso => eat_array_contains_or_var(text, start),
+        Profile::Sqlite => eat_named_var(text, start, start.eat(text)),
+    }
+}
+
+fn eat_colon(text: &[u8], start: Cursor, profile: Profile) -> Lexed
+    requires { ⌜ At (char ":") (start .at) (now text) ⌝ }
+    ensures { λ r. ⌜ LexesUnder profile (now (text .entry)) (start .at) r ⌝ }
+{
+    match profile {
+        Profile::Turso => eat_colon_or_var(text, start),
+        Profile::Sqlite => eat_named_var(text, start, start.eat(text)),
+    }
 }

@@ -6,10 +6,12 @@ use crate::lexed::refused;
 use crate::lexed::token;
 use keywords::kinds::TK_COLON;
 use keywords::kinds::TK_VARIABLE;
+ghost use Prim.Native.Nat.{_≤_};
+ghost use Rattle.grammar.specs.declared.profile.Profile.{Profile};
 ghost use Rattle.grammar.specs.Runs.{char};
-ghost use Rattle.grammar.proofs.Reading.{Reads, behind};
+ghost use Rattle.grammar.proofs.Reading.{ReadsUnder, behind};
 ghost use Rattle.grammar.proofs.Places.{At, Named};
-ghost use Rattle.lexer.specs.Values.{Lexes};
+ghost use Rattle.lexer.specs.Values.{Lexes, LexesUnder};
 
 // `?` and digits.
 pub(crate) fn eat_numbered_var(text: &[u8], start: Cursor) -> Lexed
@@ -22,8 +24,8 @@ pub(crate) fn eat_numbered_var(text: &[u8], start: Cursor) -> Lexed
 // The name of a parameter, behind its `$`, `@` or `:`: identifier bytes, and `::` pairs anywhere. Here no identifier byte has come yet;
 // without one it is refused.
 pub(crate) fn eat_named_var(text: &[u8], start: Cursor, at: Cursor) -> Lexed
-    requires { ⌜ Reads (now text) (start .at) (at .at) (behind "$") ⌝ }
-    ensures { λ r. ⌜ Lexes (now (text .entry)) (start .at) r ⌝ }
+    requires { ⌜ start .at ≤ at .at ⌝ }
+    ensures { λ r. ⌜ ((p : Profile) → ReadsUnder p (now (text .entry)) (start .at) (at .at) (behind "$") → LexesUnder p (now (text .entry)) (start .at) r) ⌝ }
 {
     let mut name = at;
     loop {
@@ -39,8 +41,8 @@ pub(crate) fn eat_named_var(text: &[u8], start: Cursor, at: Cursor) -> Lexed
 
 // From the first identifier byte on.
 fn eat_name(text: &[u8], start: Cursor, at: Cursor) -> Lexed
-    requires { ⌜ Reads (now text) (start .at) (at .at) (behind "$a") ⌝ }
-    ensures { λ r. ⌜ Lexes (now (text .entry)) (start .at) r ⌝ }
+    requires { ⌜ start .at ≤ at .at ⌝ }
+    ensures { λ r. ⌜ ((p : Profile) → ReadsUnder p (now (text .entry)) (start .at) (at .at) (behind "$a") → LexesUnder p (now (text .entry)) (start .at) r) ⌝ }
 {
     let mut name = at;
     loop {
@@ -54,8 +56,8 @@ fn eat_name(text: &[u8], start: Cursor, at: Cursor) -> Lexed
 
 // One "(...)" ends a name; it must be closed and hold no blank.
 fn eat_suffix(text: &[u8], start: Cursor, at: Cursor) -> Lexed
-    requires { ⌜ Named (now text) (start .at) (at .at) ⌝ }
-    ensures { λ r. ⌜ Lexes (now (text .entry)) (start .at) r ⌝ }
+    requires { ⌜ start .at ≤ at .at ⌝ }
+    ensures { λ r. ⌜ ((p : Profile) → Named p (now (text .entry)) (start .at) (at .at) → LexesUnder p (now (text .entry)) (start .at) r) ⌝ }
 {
     if !at.sees(text, b'(') {
         return token(TK_VARIABLE, start, at);

@@ -10,11 +10,13 @@ use keywords::kinds::TK_ID;
 use keywords::kinds::TK_STRING;
 ghost use mathlib.Core.Path.{_≡_};
 ghost use mathlib.Core.Bool.{true};
+ghost use Rattle.grammar.specs.declared.profile.Profile.the-variants.{Sqlite};
 ghost use Rattle.grammar.specs.Form.{byte, oneOf, holds};
+ghost use Rattle.grammar.specs.Runs.{char};
 ghost use Rattle.grammar.proofs.Reading.{Reads, behind};
 ghost use Rattle.grammar.proofs.Places.{At};
 ghost use Rattle.lexer.specs.Eaten.{quoteKind};
-ghost use Rattle.lexer.specs.Values.{Lexes};
+ghost use Rattle.lexer.specs.Values.{Lexes, LexesUnder};
 
 fn quote_kind(quote: u8) -> u32
     ensures { λ r. ⌜ r ≡ quoteKind quote ⌝ }
@@ -42,6 +44,17 @@ pub(crate) fn eat_lit_or_id(text: &[u8], start: Cursor, quote: u8) -> Lexed
                 body = after.eat(text);
             }
         }
+    }
+}
+
+// `[` up to the first `]`, a name where the profile is nearer SQLite.
+pub(crate) fn eat_bracketed(text: &[u8], start: Cursor) -> Lexed
+    requires { ⌜ At (char "[") (start .at) (now text) ⌝ }
+    ensures { λ r. ⌜ LexesUnder Sqlite (now (text .entry)) (start .at) r ⌝ }
+{
+    match start.eat(text).eat_past(text, b']') {
+        Past::Missed(end) => refused(Refusal::UnterminatedLiteral, start, end, start),
+        Past::Found(after) => token(TK_ID, start, after),
     }
 }
 

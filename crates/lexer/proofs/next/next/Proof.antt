@@ -1,14 +1,15 @@
 -- `lexer::next::next` meets its contract. Assumes nothing.
-use mathlib.Core.Path.{_∙_, sym}
+use mathlib.Core.Path.{_∙_, refl, sym}
 use borrow.Author.Needs.{needs}
+use Rattle.words.specs.Bytes.{isBlank, isDigit}
 use Rattle.grammar.specs.Form.{blank}
 use Rattle.lexer.proofs.EatLaws.{head-sees}
-use Rattle.lexer.proofs.NextLaws.{byte-seen, end-lexed, past-lexed}
+use Rattle.lexer.proofs.NextLaws.{byte-seen, end-lexed, lift, past-lexed}
 use Rattle.lexer.proofs.next.next.Statement.{statement}
 use Rattle.lexer.proofs.next.next.Tie as tie
 
 returns : tie.Need-returns
-returns c = past-lexed _ _ (c .if1 .taken)
+returns c = past-lexed _ _ _ (c .if1 .taken)
 
 peek-requires : tie.Need-peek-requires
 peek-requires c κs = search needs
@@ -24,7 +25,7 @@ returns-2 c =
     let enum-told = c .enum-told in
     let peek = c .before .before .peek in
     let if1 = c .before .before .before .if1 in
-    end-lexed _ _ (if1 .left) (sym (enum-told .given .1) ∙ peek .ensures)
+    end-lexed _ _ _ (if1 .left) (sym (enum-told .given .1) ∙ peek .ensures)
 
 is-blank-requires : tie.Need-is-blank-requires
 is-blank-requires c κs = search needs
@@ -38,7 +39,13 @@ eat-white-space-requires c κs =
     sym (head-sees blank _ _ (sym (b .given .1) ∙ peek .ensures)) ∙ sym (is-blank .ensures) ∙ if2 .taken
 
 returns-3 : tie.Need-returns-3
-returns-3 c = search needs
+unfolding isBlank isDigit
+returns-3 c =
+    let if2 = c .before .if2 in
+    let is-blank = c .before .before .is-blank in
+    let b = c .before .before .before .before .b in
+    let peek = c .before .before .before .before .before .before .peek in
+    lift blank refl _ _ _ (sym (head-sees blank _ _ (sym (b .given .1) ∙ peek .ensures)) ∙ sym (is-blank .ensures) ∙ if2 .taken) _ (c .eat-white-space .ensures)
 
 eat-lexeme-requires : tie.Need-eat-lexeme-requires
 eat-lexeme-requires c κs =

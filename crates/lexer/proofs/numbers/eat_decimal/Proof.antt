@@ -3,7 +3,7 @@ use native.Mathlib.Omega.{arith}
 use mathlib.Core.Path.{_∙_, sym}
 use borrow.Author.Needs.{needs}
 use Rattle.grammar.specs.Form.{D, _or_, oneOf}
-use Rattle.grammar.proofs.Reading.{behind}
+use Rattle.grammar.proofs.Reading.{behindUnder}
 use Rattle.grammar.proofs.Places.{Counted}
 use Rattle.lexer.specs.declared.digits.Tally.{Tally}
 use Rattle.lexer.proofs.CountLaws.{counted-few, counted-run, decimal-apart, decimal-digits}
@@ -38,7 +38,7 @@ abbrev tally : tie.After-end → Tally
 tally c = c .before .before .digits .given .0 .0
 
 digits : (c : tie.After-end)
-    → After D (D or oneOf "_") (entry c .args .text .now) (entry c .args .start .at) (entry c .args .at .at) (tally c .cursor .at) (behind "1")
+    → After D (D or oneOf "_") (entry c .args .profile) (entry c .args .text .now) (entry c .args .start .at) (entry c .args .at .at) (tally c .cursor .at) (behindUnder (entry c .args .profile) "1")
 digits c = decimal-after (entry c .pre) _ _ (sym (c .before .before .digits .given .1) ∙ c .before .before .before .before .eat-while-number-digit .ensures)
 
 counted : (c : tie.After-end) → Counted D (entry c .args .text .now) (entry c .args .start .at) (tally c .cursor .at) (tally c .digits) (tally c .underscores)

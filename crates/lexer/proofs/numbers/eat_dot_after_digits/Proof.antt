@@ -3,7 +3,7 @@ use mathlib.Core.Path.{_∙_, sym}
 use borrow.Author.Needs.{needs}
 use Rattle.grammar.specs.Form.{D}
 use Rattle.grammar.proofs.RulePlaces.{floatRule}
-use Rattle.grammar.proofs.Reading.{Ends}
+use Rattle.grammar.proofs.Reading.{EndsUnder}
 use Rattle.grammar.proofs.Places.{Counted}
 use Rattle.lexer.proofs.NumberLaws.{float-lexed}
 use Rattle.lexer.proofs.FractionLaws.{dot-counted, dot-e, dot-ends, dot-fraction}
@@ -47,7 +47,7 @@ returns-2 c = c .eat-expo .ensures
 abbrev behind : tie.Else2 → tie.After-eat
 behind c = c .before .before .before .before
 
-plain : (c : tie.Else2) → Ends (entry (behind c) .args .text .now) (entry (behind c) .args .start .at) (behind c .eat .result .at) floatRule
+plain : (c : tie.Else2) → EndsUnder (entry (behind c) .args .profile) (entry (behind c) .args .text .now) (entry (behind c) .args .start .at) (behind c .eat .result .at) floatRule
 plain c =
     let there = behind c in
     let no-digit = sym (c .before .before .before .sees-digit .ensures) ∙ c .before .before .if1 .left in

@@ -1,10 +1,9 @@
 -- `lexer::numbers::eat_dot_or_frac` meets its contract. Assumes nothing.
-use mathlib.Core.Path.{_∙_, refl, sym}
+use mathlib.Core.Path.{_∙_, sym}
 use borrow.Author.Needs.{needs}
-use Rattle.grammar.specs.Classes.{operators}
 use Rattle.grammar.proofs.Seen.{moved-up}
-use Rattle.lexer.proofs.FractionLaws.{first-counted, first-fraction}
-use Rattle.lexer.proofs.OperatorLaws.{follow, isOperator, one-lexed}
+use Rattle.grammar.proofs.Reading.{spelled-first}
+use Rattle.lexer.proofs.FractionLaws.{dot-lexed, first-counted, first-fraction}
 use Rattle.lexer.proofs.numbers.eat_dot_or_frac.Statement.{statement}
 use Rattle.lexer.proofs.numbers.eat_dot_or_frac.Tie as tie
 
@@ -20,7 +19,7 @@ eat-frac-requires c κs =
     let sees-digit = c .before .sees-digit in
     let eat = c .before .before .eat in
     let pre = c .before .before .before .before .pre in
-    (first-fraction _ _ _ pre (eat .ensures) (sym (sees-digit .ensures) ∙ if1 .taken), first-counted _ _ _ pre (eat .ensures))
+    (first-fraction _ _ _ _ pre (eat .ensures) (sym (sees-digit .ensures) ∙ if1 .taken), first-counted _ _ _ pre (eat .ensures))
 
 returns : tie.Need-returns
 returns c = c .eat-frac .ensures
@@ -29,14 +28,13 @@ token-requires : tie.Need-token-requires
 token-requires c κs = moved-up _ _ _ (c .before .before .eat .ensures)
 
 returns-2 : tie.Need-returns-2
-unfolding follow isOperator operators
 returns-2 c =
     let token = c .token in
     let if1 = c .before .if1 in
     let sees-digit = c .before .before .sees-digit in
     let eat = c .before .before .before .eat in
     let pre = c .before .before .before .before .before .pre in
-    one-lexed 46 _ _ pre (eat .ensures) refl refl (sym (sees-digit .ensures) ∙ if1 .left) _ (token .ensures)
+    dot-lexed _ (spelled-first 46 _ _ pre (eat .ensures)) (sym (sees-digit .ensures) ∙ if1 .left) _ (token .ensures)
 
 pub eat-dot-or-frac-spec : {M : Type 1} → statement M
 eat-dot-or-frac-spec =

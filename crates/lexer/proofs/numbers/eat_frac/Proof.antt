@@ -2,8 +2,9 @@
 use native.Mathlib.Omega.{arith}
 use mathlib.Core.Path.{_∙_, sym}
 use borrow.Author.Needs.{needs}
+use borrow.Author.Tests.{not-false, not-true}
 use Rattle.grammar.specs.Form.{D, _or_, oneOf}
-use Rattle.grammar.proofs.Reading.{behind}
+use Rattle.grammar.proofs.Reading.{behindUnder}
 use Rattle.grammar.proofs.Places.{Counted}
 use Rattle.lexer.specs.declared.digits.Tally.{Tally}
 use Rattle.lexer.proofs.CountLaws.{counted-few, counted-run, decimal-apart}
@@ -38,7 +39,7 @@ abbrev tally : tie.After-end → Tally
 tally c = c .before .before .digits .given .0 .0
 
 digits : (c : tie.After-end)
-    → After D (D or oneOf "_.") (entry c .args .text .now) (entry c .args .start .at) (entry c .args .at .cursor .at) (tally c .cursor .at) (behind "1.5")
+    → After D (D or oneOf "_.") (entry c .args .profile) (entry c .args .text .now) (entry c .args .start .at) (entry c .args .at .cursor .at) (tally c .cursor .at) (behindUnder (entry c .args .profile) "1.5")
 digits c = fraction-after (entry c .pre .0) _ _ (sym (c .before .before .digits .given .1) ∙ c .before .before .before .before .eat-while-number-digit .ensures)
 
 counted : (c : tie.After-end) → Counted D (entry c .args .text .now) (entry c .args .start .at) (tally c .cursor .at) (tally c .digits) (tally c .underscores)
@@ -49,14 +50,6 @@ counted c =
 sees-either-requires : tie.Need-sees-either-requires
 sees-either-requires c κs = search needs
 
-eat-expo-requires : tie.Need-eat-expo-requires
-eat-expo-requires c κs =
-    let there = c .before .before in
-    (fraction-e (digits there) (sym (c .before .sees-either .ensures) ∙ c .if1 .taken), counted there)
-
-returns : tie.Need-returns
-returns c = c .eat-expo .ensures
-
 sees-start-requires : tie.Need-sees-start-requires
 sees-start-requires c κs = search needs
 
@@ -65,18 +58,29 @@ refused-requires-2 c κs =
     let there = c .before .before .before .before in
     omega (arith, digits there .up, entry there .pre .0 .next)
 
-returns-2 : tie.Need-returns-2
-returns-2 c =
-    let refused2 = c .refused2 in
+returns : tie.Need-returns
+returns c =
     let if2 = c .before .if2 in
     let sees-start = c .before .before .sees-start in
     let if1 = c .before .before .before .if1 in
     let sees-either = c .before .before .before .before .sees-either in
     let there = c .before .before .before .before .before in
-    fraction-word-lexed (entry there .pre .0) (digits there) (sym (sees-either .ensures) ∙ if1 .left) (sym (sees-start .ensures) ∙ if2 .taken) _ (refused2 .ensures)
+    fraction-word-lexed (entry there .pre .0) (digits there) (sym (sees-either .ensures) ∙ not-true _ (if1 .taken)) (sym (sees-start .ensures) ∙ if2 .taken) _ (c .refused2 .ensures)
 
 number-requires : tie.Need-number-requires
 number-requires c κs = digits (c .before .before .before .before) .reads .ordered
+
+returns-2 : tie.Need-returns-2
+returns-2 c =
+    let if2 = c .before .if2 in
+    let sees-start = c .before .before .sees-start in
+    let there = c .before .before .before .before .before in
+    float-lexed _ (fraction-ends (digits there) (sym (sees-start .ensures) ∙ if2 .left)) (counted there) (c .number .ensures)
+
+eat-expo-requires : tie.Need-eat-expo-requires
+eat-expo-requires c κs =
+    let there = c .before .before in
+    (fraction-e (digits there) (sym (c .before .sees-either .ensures) ∙ not-false _ (c .if1 .left)), counted there)
 
 returns-3 : tie.Need-returns-3
 returns-3 c =
@@ -87,11 +91,7 @@ returns-3 c =
     stuck-lexed _ (refused .ensures) (fraction-stuck (pre .0) _ _ (sym (from .given .1) ∙ eat-while-number-digit .ensures))
 
 returns-4 : tie.Need-returns-4
-returns-4 c =
-    let if2 = c .before .if2 in
-    let sees-start = c .before .before .sees-start in
-    let there = c .before .before .before .before .before in
-    float-lexed _ (fraction-ends (digits there) (sym (sees-start .ensures) ∙ if2 .left)) (counted there) (c .number .ensures)
+returns-4 c = c .eat-expo .ensures
 
 pub eat-frac-spec : {M : Type 1} → statement M
 eat-frac-spec =
@@ -102,11 +102,11 @@ eat-frac-spec =
     refused-requires
     enum-known-digits
     sees-either-requires
-    eat-expo-requires
-    returns
     sees-start-requires
     refused-requires-2
-    returns-2
+    returns
     number-requires
+    returns-2
+    eat-expo-requires
     returns-3
     returns-4)

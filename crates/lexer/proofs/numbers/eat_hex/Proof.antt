@@ -2,6 +2,7 @@
 use native.Mathlib.Omega.{arith}
 use mathlib.Core.Path.{_∙_, sym}
 use borrow.Author.Needs.{needs}
+use Rattle.grammar.specs.declared.profile.Profile.the-variants.{Turso}
 use Rattle.grammar.specs.Form.{H, any}
 use Rattle.grammar.proofs.Reading.{behind}
 use Rattle.grammar.proofs.Places.{Counted}
@@ -48,7 +49,7 @@ abbrev read : tie.Else1 → tie.After-end
 read c = c .before .before .before
 
 digits : (c : tie.Else1)
-    → After H any (entry (read c) .args .text .now) (entry (read c) .args .start .at) (entry (read c) .args .at .at) (tally (read c) .cursor .at) (behind "0x1")
+    → After H any Turso (entry (read c) .args .text .now) (entry (read c) .args .start .at) (entry (read c) .args .at .at) (tally (read c) .cursor .at) (behind "0x1")
 digits c =
     let there = read c in
     let run = sym (there .before .before .digits .given .1) ∙ there .before .before .before .before .eat-while-number-hexdigit .ensures in

@@ -1,26 +1,28 @@
--- `lexer::parameters::eat_name` meets its contract. The loop's invariant: the text up to here reads like a name. Assumes nothing.
-use Prim.Native.Nat.{_-_}
+-- `lexer::parameters::eat_name` meets its contract. The loop's invariant: under a profile under which the text
+-- read like a name before the loop, it does so up to here. Assumes nothing.
+use Prim.Native.Nat.{_-_, _≤_}
 use native.Mathlib.Omega.{arith}
 use mathlib.Core.Path.{_∙_, sym}
 use lib.ListN.{length}
 use borrow.Author.Needs.{needs}
 use borrow.Author.Tests.{not-false, not-true}
-use Rattle.grammar.specs.Form.{byte}
-use Rattle.grammar.proofs.Seen.{over-on, over-stops}
-use Rattle.grammar.proofs.Reading.{Reads, behind}
+use Rattle.grammar.specs.declared.profile.Profile.{Profile}
+use Rattle.grammar.proofs.Seen.{moved-twice, over-on, over-stops}
+use Rattle.grammar.proofs.Reading.{ReadsUnder, behind}
 use Rattle.lexer.proofs.EatLaws.{pair-on}
 use Rattle.lexer.proofs.ParameterLaws.{name-more, name-while}
 use Rattle.lexer.proofs.parameters.eat_name.Statement.{statement}
 use Rattle.lexer.proofs.parameters.eat_name.Tie as tie
 
 abbrev Inv-loop : tie.InvT-loop
-Inv-loop text start name₀ name = Reads text (start .at) (name .at) (behind "$a")
+Inv-loop text start name₀ name =
+    (start .at ≤ name .at) × ((π : Profile) → ReadsUnder π text (start .at) (name₀ .at) (behind "$a") → ReadsUnder π text (start .at) (name .at) (behind "$a"))
 
 abbrev μ-loop : tie.MeasureT-loop
 μ-loop text start name₀ name = length text - name .at
 
 loop-holds : tie.Need-loop-holds Inv-loop μ-loop
-loop-holds c = c .before .pre
+loop-holds c = (c .before .pre, λ π reads. reads)
 
 eat-while-continue-requires : tie.Need-eat-while-continue-requires Inv-loop μ-loop
 eat-while-continue-requires c κs = search needs
@@ -30,16 +32,19 @@ sees-pair-requires c κs = search needs
 
 eat-suffix-requires : tie.Need-eat-suffix-requires Inv-loop μ-loop
 eat-suffix-requires c κs =
-    let if1 = c .if1 in
-    let sees-pair = c .before .sees-pair in
-    let eat-while-continue = c .before .before .eat-while-continue in
-    let loop = c .before .before .before .loop in
-    let reads = name-while (loop .inv) (eat-while-continue .ensures) in
-    let misses = over-stops _ _ _ _ (eat-while-continue .ensures) in
-    record { reads = reads; byte = misses; pair = sym (sees-pair .ensures) ∙ not-true _ (if1 .taken) }
+    let ordered = c .before .before .before .loop .inv .0 in
+    omega (arith, over-on _ _ _ _ (c .before .before .eat-while-continue .ensures))
 
 returns : tie.Need-returns Inv-loop μ-loop
-returns c = search needs
+returns c =
+    let if1 = c .before .if1 in
+    let sees-pair = c .before .before .sees-pair in
+    let eat-while-continue = c .before .before .before .eat-while-continue in
+    let loop = c .before .before .before .before .loop in
+    let misses = over-stops _ _ _ _ (eat-while-continue .ensures) in
+    let no-pair = sym (sees-pair .ensures) ∙ not-true _ (if1 .taken) in
+    λ π reads.
+    c .eat-suffix .ensures π (record { reads = name-while (loop .inv .1 π reads) (eat-while-continue .ensures); byte = misses; pair = no-pair })
 
 eat-requires : tie.Need-eat-requires Inv-loop μ-loop
 eat-requires c κs = search needs
@@ -65,8 +70,11 @@ loop-again c =
     let sees-pair = c .before .before .before .sees-pair in
     let eat-while-continue = c .before .before .before .before .eat-while-continue in
     let loop = c .before .before .before .before .before .loop in
-    let reads = name-while (loop .inv) (eat-while-continue .ensures) in
-    name-more reads (sym (sees-pair .ensures) ∙ not-false _ (if1 .left)) (eat .ensures) (eat2 .ensures)
+    let pair = sym (sees-pair .ensures) ∙ not-false _ (if1 .left) in
+    let ordered = loop .inv .0 in (
+      omega (arith, over-on _ _ _ _ (eat-while-continue .ensures), moved-twice _ _ _ _ (eat .ensures) (eat2 .ensures)),
+      λ π reads. name-more (name-while (loop .inv .1 π reads) (eat-while-continue .ensures)) pair (eat .ensures) (eat2 .ensures),
+    )
 
 pub eat-name-spec : {M : Type 1} → statement M
 eat-name-spec =
