@@ -13,13 +13,13 @@ use Rattle.keywords.specs.Kinds.{kind}
 use Rattle.keywords.proofs.Logic.{split}
 use Rattle.grammar.specs.Classes.{rules}
 use Rattle.grammar.specs.Answers.{Answer, token, end, refusal}
-use Rattle.grammar.specs.Longest.{Gives}
+use Rattle.grammar.specs.Longest.{Source, Next}
 use Rattle.grammar.proofs.Tokens.{end-told}
 use Rattle.lexer.specs.declared.cursor.Cursor.{Cursor}
 use Rattle.lexer.specs.declared.lexed.Refusal.{Refusal}
 use Rattle.lexer.specs.declared.lexed.Lexed.{Lexed}
 use Rattle.lexer.specs.declared.lexed.Lexed.the-variants.{Token, End as Over, Refused as Bad}
-use Rattle.lexer.specs.Values.{Lexes, numberOf}
+use Rattle.lexer.specs.Values.{LexesUnder, numberOf}
 use Rattle.lexer.proofs.lexed.Lexed as Lexed-is
 use Rattle.lists.specs.declared.cut.Statement.{Statement}
 use Rattle.lists.specs.declared.cut.Statement.the-variants.{Cut, Refused}
@@ -46,22 +46,22 @@ has-one-more (u ∷ l) t =
     or-swap false false c = refl
 
 -- no semicolon came, and `any` says whether a token did
-pub record Uncut (s : List ℕ) (from at : ℕ) (any : Bool) : Type 0 where
+pub record Uncut (s : Source) (from at : ℕ) (any : Bool) : Type 0 where
   pub passed : List Legal
   pub passes : Passes NoSemi s [] from passed at
   pub has : any ≡ someNotNone passed
 
-pub begins : (s : List ℕ) (from : ℕ) → Uncut s from from false
+pub begins : (s : Source) (from : ℕ) → Uncut s from from false
 unfolding Passes someNotNone
 begins s from = record { passed = []; passes = refl; has = refl }
 
-module _ {s : List ℕ} {from at : ℕ} {any : Bool} (v : Uncut s from at any) where
+module _ {s : Source} {from at : ℕ} {any : Bool} (v : Uncut s from at any) where
   pub ahead : from ≤ at
   ahead = passes-ahead NoSemi s [] from (v .passed) at (v .passes)
 
-  pub onward : (k start m : ℕ) (next : Cursor) (d u : ℕ) → Lexes s at (Token k start m next d u) → (k ≡ kind "TK_SEMI" → ⊥)
+  pub onward : (k start m : ℕ) (next : Cursor) (d u : ℕ) → LexesUnder (s .profile) (s .text) at (Token k start m next d u) → (k ≡ kind "TK_SEMI" → ⊥)
       → (more : Bool) → more ≡ notNone k || any → Uncut s from (next .at) more
-  unfolding Lexes
+  unfolding LexesUnder
   onward k start m next d u h other more e =
       let t = legal k start m d u in
       record {
@@ -71,7 +71,7 @@ module _ {s : List ℕ} {from at : ℕ} {any : Bool} (v : Uncut s from at any) w
       }
 
   -- the walk ends here
-  cutting : (there : Answer) → Gives rules s at there → ((t : Legal) → there ≡ tokenOf t → NoSemi (v .passed) t → ⊥)
+  cutting : (there : Answer) → Next s at there → ((t : Legal) → there ≡ tokenOf t → NoSemi (v .passed) t → ⊥)
       → Cutting s from (cutAnswer from any there)
   cutting there g stuck =
       record {
@@ -79,20 +79,20 @@ module _ {s : List ℕ} {from at : ℕ} {any : Bool} (v : Uncut s from at any) w
         answers = ap (λ (b : Bool). cutAnswer from b there) (v .has);
       }
 
-  pub semi-cuts : (k start m : ℕ) (next : Cursor) (d u : ℕ) → Lexes s at (Token k start m next d u) → k ≡ kind "TK_SEMI"
+  pub semi-cuts : (k start m : ℕ) (next : Cursor) (d u : ℕ) → LexesUnder (s .profile) (s .text) at (Token k start m next d u) → k ≡ kind "TK_SEMI"
       → Cuts s from (Cut from (next .at - from) any next)
-  unfolding Lexes Cuts
+  unfolding LexesUnder Cuts
   semi-cuts k start m next d u g e =
       cutting (token k start m (next .at) d u) g (λ t p other. let same : t .kind ≡ k = cc in other (same ∙ e))
 
-  pub refusal-cuts : (why : Refusal) (start m : ℕ) (next given : Cursor) → from ≡ given .at → Lexes s at (Bad why start m next)
+  pub refusal-cuts : (why : Refusal) (start m : ℕ) (next given : Cursor) → from ≡ given .at → LexesUnder (s .profile) (s .text) at (Bad why start m next)
       → Cuts s from (Refused why start m given)
-  unfolding Lexes Cuts
+  unfolding LexesUnder Cuts
   refusal-cuts why start m next given e g =
       subst (λ (a : ℕ). Cutting s from (CutAnswer.refused (numberOf why) start m a)) e
       (cutting (refusal (numberOf why) start m (next .at)) g (λ t p other. refusal-no-token (numberOf why) start m (next .at) t p))
 
-  pub end-cuts : (r : Statement) → at ≡ length s → Gives rules s at (end at) → valuesOf r ≡ cutAnswer from any (end (length s))
+  pub end-cuts : (r : Statement) → at ≡ length (s .text) → Next s at (end at) → valuesOf r ≡ cutAnswer from any (end (length (s .text)))
       → Cuts s from r
   unfolding Cuts
   end-cuts r l g e =
@@ -104,11 +104,11 @@ abbrev which : Lexed → ℕ
 which r = tagOf Lexed-is.the-type r
 
 -- the end of the text, which is what is left where neither a token nor a refusal is given
-pub only-end : (s : List ℕ) (at : ℕ) (r : Lexed) → Lexes s at r → OneOf (1 ∷ 2 ∷ []) (which r) → OneOf (0 ∷ 1 ∷ []) (which r)
-    → (at ≡ length s) × Gives rules s at (end at)
-unfolding Lexes
+pub only-end : (s : Source) (at : ℕ) (r : Lexed) → LexesUnder (s .profile) (s .text) at r → OneOf (1 ∷ 2 ∷ []) (which r) → OneOf (0 ∷ 1 ∷ []) (which r)
+    → (at ≡ length (s .text)) × Next s at (end at)
+unfolding LexesUnder
 only-end s at (Token k start n next d u) g p q = let z : ⊥ = ⊎-elim (λ e. omega arith) (λ e. omega arith) p in absurd z
 only-end s at (Bad why start n next) g p q = let z : ⊥ = ⊎-elim (λ e. omega arith) (λ e. omega arith) q in absurd z
 only-end s at (Over next) g p q =
-    let (l, o) = end-told s at (next .at) g in
-    (l, subst (λ (a : ℕ). Gives rules s at (end a)) o g)
+    let (l, o) = end-told (s .profile) (s .text) at (next .at) g in
+    (l, subst (λ (a : ℕ). Next s at (end a)) o g)

@@ -9,11 +9,11 @@ use lib.ListN.{length, drop, take, length-append, length-drop}
 use lib.Seq.{sets, sets-eq, take-at, drop-append-add, drop-drop}
 use Rattle.grammar.specs.Classes.{rules}
 use Rattle.grammar.specs.Answers.{Answer, token, end}
-use Rattle.grammar.specs.Longest.{Gives}
+use Rattle.grammar.specs.Longest.{Source, Next}
 use Rattle.lexer.specs.declared.cursor.Cursor.{Cursor}
 use Rattle.lexer.specs.declared.lexed.Refusal.{Refusal}
 use Rattle.lexer.specs.declared.lexed.Lexed.the-variants.{Token, End as Over, Refused as Bad}
-use Rattle.lexer.specs.Values.{Lexes, valuesOf, numberOf}
+use Rattle.lexer.specs.Values.{LexesUnder, valuesOf, numberOf}
 use Rattle.lists.specs.declared.list.Listed.the-variants.{End, Refused, TooLong, ListFull}
 use Rattle.lists.specs.Walk.{Legal, tokenOf, Passes}
 use Rattle.lists.specs.Lists.{recordOf, recordsOf, HasRoom, listAnswer, longestText, Listing, Lists, put}
@@ -47,7 +47,7 @@ put-behind rs old i t e h =
     p ∙ q ∙ rw (a, d)
 
 -- n records, i numbers, stand at the front of the list that was
-pub record Inside (s : List ℕ) (from : ℕ) (old out : List ℕ) (at n i : ℕ) : Type 0 where
+pub record Inside (s : Source) (from : ℕ) (old out : List ℕ) (at n i : ℕ) : Type 0 where
   pub passed : List Legal
   pub passes : Passes (HasRoom (length old)) s [] from passed at
   pub many : n ≡ length passed
@@ -55,11 +55,11 @@ pub record Inside (s : List ℕ) (from : ℕ) (old out : List ℕ) (at n i : ℕ
   pub room : i ≤ length old
   pub holds : out ≡ recordsOf passed ++ drop i old
 
-pub begins : (s : List ℕ) (from : ℕ) (old : List ℕ) → Inside s from old old from 0 0
+pub begins : (s : Source) (from : ℕ) (old : List ℕ) → Inside s from old old from 0 0
 unfolding Passes recordsOf
 begins s from old = record { passed = []; passes = refl; many = refl; filled = refl; room = omega arith; holds = refl }
 
-module _ {s : List ℕ} {from : ℕ} {old out : List ℕ} {at n i : ℕ} (v : Inside s from old out at n i) where
+module _ {s : Source} {from : ℕ} {old out : List ℕ} {at n i : ℕ} (v : Inside s from old out at n i) where
   pub same-long : length out ≡ length old
   same-long = ap length (v .holds) ∙ length-append (recordsOf (v .passed)) (drop i old) ∙ omega (arith, length-drop i old, v .filled, v .room)
 
@@ -67,9 +67,9 @@ module _ {s : List ℕ} {from : ℕ} {old out : List ℕ} {at n i : ℕ} (v : In
   three = v .filled ∙ records-long (v .passed) ∙ omega (arith, v .many)
 
   -- with room for one record more
-  pub onward : (k start m : ℕ) (next : Cursor) (d u : ℕ) → Lexes s at (Token k start m next d u) → i + 3 ≤ length out
+  pub onward : (k start m : ℕ) (next : Cursor) (d u : ℕ) → LexesUnder (s .profile) (s .text) at (Token k start m next d u) → i + 3 ≤ length out
       → Inside s from old (put out i k start m) (next .at) (n + 1) (i + 3)
-  unfolding Lexes
+  unfolding LexesUnder
   onward k start m next d u h r =
       let t = legal k start m d u in
       let e = same-long in
@@ -87,7 +87,7 @@ module _ {s : List ℕ} {from : ℕ} {old out : List ℕ} {at n i : ℕ} (v : In
       }
 
   -- the walk ends here
-  listing : (there : Answer) → Gives rules s at there → ((t : Legal) → there ≡ tokenOf t → HasRoom (length old) (v .passed) t → ⊥)
+  listing : (there : Answer) → Next s at there → ((t : Legal) → there ≡ tokenOf t → HasRoom (length old) (v .passed) t → ⊥)
       → Listing s from old (listAnswer at there) n out
   listing there g stuck =
       record {
@@ -97,20 +97,20 @@ module _ {s : List ℕ} {from : ℕ} {old out : List ℕ} {at n i : ℕ} (v : In
         written = v .holds ∙ ap (λ (m : ℕ). recordsOf (v .passed) ++ drop m old) (v .filled);
       }
 
-  module _ (short : length s ≤ longestText) where
-    pub end-lists : (next : Cursor) → Lexes s at (Over next) → Lists s from old (End n next) out
-    unfolding Lexes Lists
+  module _ (short : length (s .text) ≤ longestText) where
+    pub end-lists : (next : Cursor) → LexesUnder (s .profile) (s .text) at (Over next) → Lists s from old (End n next) out
+    unfolding LexesUnder Lists
     end-lists next g = inr (short, listing (end (next .at)) g (λ t e o. end-no-token (next .at) t e))
 
-    pub refusal-lists : (why : Refusal) (start m : ℕ) (next : Cursor) → Lexes s at (Bad why start m next)
+    pub refusal-lists : (why : Refusal) (start m : ℕ) (next : Cursor) → LexesUnder (s .profile) (s .text) at (Bad why start m next)
         → Lists s from old (Refused why start m n next) out
-    unfolding Lexes Lists
+    unfolding LexesUnder Lists
     refusal-lists why start m next g =
         inr (short, listing (valuesOf (Bad why start m next)) g (λ t e o. refusal-no-token (numberOf why) start m (next .at) t e))
 
-    pub full-lists : (here : Cursor) → at ≡ here .at → (k start m : ℕ) (next : Cursor) (d u : ℕ) → Lexes s at (Token k start m next d u)
+    pub full-lists : (here : Cursor) → at ≡ here .at → (k start m : ℕ) (next : Cursor) (d u : ℕ) → LexesUnder (s .profile) (s .text) at (Token k start m next d u)
         → length out - i < 3 → Lists s from old (ListFull n here) out
-    unfolding Lexes Lists
+    unfolding LexesUnder Lists
     full-lists here e k start m next d u g h =
         let there = token k start m (next .at) d u in
         let l = same-long in
@@ -119,7 +119,7 @@ module _ {s : List ℕ} {from : ℕ} {old out : List ℕ} {at n i : ℕ} (v : In
         inr (short, subst (λ (a : ℕ). Listing s from old (listAnswer a there) n out) e (listing there g (λ t p o. omega arith)))
 
 -- a text that is too long
-pub too-long-lists : (s : List ℕ) (from : ℕ) (old : List ℕ) (next : Cursor) → from ≡ next .at → longestText < length s
+pub too-long-lists : (s : Source) (from : ℕ) (old : List ℕ) (next : Cursor) → from ≡ next .at → longestText < length (s .text)
     → Lists s from old (TooLong next) old
 unfolding Lists
 too-long-lists s from old next e h = inl (h, rw e refl, refl, refl)

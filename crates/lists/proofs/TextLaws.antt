@@ -14,7 +14,7 @@ use Rattle.words.specs.Bytes.{isDigit, isHexdigit, isIdentifierStart, isIdentif
 use Rattle.words.specs.Word.{upper, kindOf}
 use Rattle.grammar.specs.Classes.{operators, rules}
 use Rattle.grammar.specs.Answers.{Answer, token, end, refusal, answer}
-use Rattle.grammar.specs.Longest.{Every, Gives}
+use Rattle.grammar.specs.Longest.{Every, Source, Next}
 use Rattle.grammar.proofs.Model.{next}
 use Rattle.grammar.proofs.Lexemes.{next-gives}
 use Rattle.grammar.proofs.Theorems.{sound}
@@ -43,9 +43,9 @@ turn test l at more (token k start n behind d u) =
 turn test l at more (end offset) = stop l at (end offset)
 turn test l at more (refusal k start n offset) = stop l at (refusal k start n offset)
 
-abbrev walk : ℕ → Test → List ℕ → List Legal → ℕ → Stop
+abbrev walk : ℕ → Test → Source → List Legal → ℕ → Stop
 walk zero test s l at = nowhere
-walk (suc fuel) test s l at = turn test l at (walk fuel test s) (next rules s at)
+walk (suc fuel) test s l at = turn test l at (walk fuel test s) (next (rules (s .profile)) (s .text) at)
 
 -- the test says what the walk passes
 record Decides (goes : Goes) (test : Test) : Type 0 where
@@ -53,12 +53,12 @@ record Decides (goes : Goes) (test : Test) : Type 0 where
   not : (l : List Legal) (t : Legal) → test l t ≡ false → goes l t → ⊥
 
 -- it is that of the definitions
-abbrev Right : Goes → List ℕ → ℕ → Stop → Type 0
+abbrev Right : Goes → Source → ℕ → Stop → Type 0
 Right goes s from nowhere = Unit {0}
-Right goes s from (stop l to there) = Passes goes s [] from l to × Gives rules s to there × Stuck goes there l
+Right goes s from (stop l to there) = Passes goes s [] from l to × Next s to there × Stuck goes there l
 
-module _ (goes : Goes) (test : Test) (d : Decides goes test) (s : List ℕ) (from : ℕ) where
-  turn-right : (l : List Legal) (at : ℕ) (more : List Legal → ℕ → Stop) (a : Answer) → Passes goes s [] from l at → Gives rules s at a
+module _ (goes : Goes) (test : Test) (d : Decides goes test) (s : Source) (from : ℕ) where
+  turn-right : (l : List Legal) (at : ℕ) (more : List Legal → ℕ → Stop) (a : Answer) → Passes goes s [] from l at → Next s at a
       → ((m : List Legal) (to : ℕ) → Passes goes s [] from m to → Right goes s from (more m to)) → Right goes s from (turn test l at more a)
   turn-right l at more (end offset) p g r = (p, g, λ t e o. end-no-token offset t e)
   turn-right l at more (refusal k start n offset) p g r = (p, g, λ t e o. refusal-no-token k start n offset t e)
@@ -70,7 +70,7 @@ module _ (goes : Goes) (test : Test) (d : Decides goes test) (s : List ℕ) (fro
 
   walk-right : (fuel : ℕ) (l : List Legal) (at : ℕ) → Passes goes s [] from l at → Right goes s from (walk fuel test s l at)
   walk-right zero l at p = tt
-  walk-right (suc fuel) l at p = turn-right l at (walk fuel test s) (next rules s at) p (next-gives rules sound s at) (walk-right fuel)
+  walk-right (suc fuel) l at p = turn-right l at (walk fuel test s) (next (rules (s .profile)) (s .text) at) p (next-gives (rules (s .profile)) (sound (s .profile)) (s .text) at) (walk-right fuel)
 
   from-here : (fuel : ℕ) → Right goes s from (walk fuel test s [] from)
   unfolding Passes
@@ -88,7 +88,7 @@ abbrev isOther : Test
 isOther l t = not (semi t)
 
 abbrev cutWalk : CutRow → Stop
-cutWalk r = walk 20 isOther (r .text) [] (r .from)
+cutWalk r = walk 20 isOther (r .source) [] (r .from)
 
 computed-cuts : map (λ r. cutGiven r (cutWalk r)) cuts ≡ map (λ r. r .answer ∷ []) cuts
 unfolding cuts someNotNone rules operators isDigit isHexdigit isIdentifierStart isIdentifierContinue isBlank answer kindOf upper wordList
@@ -99,7 +99,7 @@ abbrev listGiven : ListRow → Stop → List ListRow
 listGiven r nowhere = []
 listGiven r (stop l to there) =
     record {
-      text = r .text;
+      source = r .source;
       from = r .from;
       lent = r .lent;
       answer = listAnswer to there;
@@ -112,7 +112,7 @@ abbrev hasRoom : ℕ → Test
 hasRoom numbers l t = leb (length (recordsOf l) + length (recordOf t)) numbers
 
 abbrev listWalk : ListRow → Stop
-listWalk r = walk 20 (hasRoom (length (r .lent))) (r .text) [] (r .from)
+listWalk r = walk 20 (hasRoom (length (r .lent))) (r .source) [] (r .from)
 
 computed-lists : map (λ r. listGiven r (listWalk r)) lists ≡ map (λ r. r ∷ []) lists
 unfolding lists recordsOf rules operators isDigit isHexdigit isIdentifierStart isIdentifierContinue isBlank answer kindOf upper wordList
@@ -128,8 +128,8 @@ semi-decides =
 room-decides : (numbers : ℕ) → Decides (HasRoom numbers) (hasRoom numbers)
 room-decides numbers = record { yes = λ l t e. leb→le _ _ (subst T (sym e) tt); not = λ l t e h. subst T e (le→leb _ _ h) }
 
-cut-row : (r : CutRow) (w : Stop) → Right NoSemi (r .text) (r .from) w → cutGiven r w ≡ r .answer ∷ []
-    → Cutting (r .text) (r .from) (r .answer)
+cut-row : (r : CutRow) (w : Stop) → Right NoSemi (r .source) (r .from) w → cutGiven r w ≡ r .answer ∷ []
+    → Cutting (r .source) (r .from) (r .answer)
 cut-row r nowhere x e = absurd (nil≢cons e)
 cut-row r (stop l to there) (p, g, stuck) e =
     record {
@@ -139,11 +139,11 @@ cut-row r (stop l to there) (p, g, stuck) e =
 
 -- a row's answer is that of the definition, and whatever meets the contract of `cut` answers so
 abbrev pub CutSo : CutRow → Type 0
-CutSo r = Cutting (r .text) (r .from) (r .answer) × ((q : Statement) → Cuts (r .text) (r .from) q → valuesOf q ≡ r .answer)
+CutSo r = Cutting (r .source) (r .from) (r .answer) × ((q : Statement) → Cuts (r .source) (r .from) q → valuesOf q ≡ r .answer)
 
-cut-so : (r : CutRow) → Cutting (r .text) (r .from) (r .answer) → CutSo r
+cut-so : (r : CutRow) → Cutting (r .source) (r .from) (r .answer) → CutSo r
 unfolding Cuts
-cut-so r x = (x, λ q y. cutting-unique (r .text) (r .from) (valuesOf q) (r .answer) y x)
+cut-so r x = (x, λ q y. cutting-unique (r .source) (r .from) (valuesOf q) (r .answer) y x)
 
 -- The rows of the table hold of the cut.
 pub cut-texts : Every CutSo cuts
@@ -152,17 +152,17 @@ cut-texts = every-row cuts computed-cuts
     every-row : (l : List CutRow) → map (λ r. cutGiven r (cutWalk r)) l ≡ map (λ r. r .answer ∷ []) l → Every CutSo l
     every-row [] e = tt
     every-row (r ∷ l) e =
-        let right = from-here NoSemi isOther semi-decides (r .text) (r .from) 20 in
+        let right = from-here NoSemi isOther semi-decides (r .source) (r .from) 20 in
         (cut-so r (cut-row r (cutWalk r) right (head-eq-of-cons-eq e)), every-row l (tail-eq-of-cons-eq e))
 
 -- List gives what a row says; an answer and a list are those of a row
 abbrev pub RowListing : ListRow → Type 0
-RowListing r = Listing (r .text) (r .from) (r .lent) (r .answer) (r .records) (r .left)
+RowListing r = Listing (r .source) (r .from) (r .lent) (r .answer) (r .records) (r .left)
 
 abbrev pub OfRow : ListRow → Listed → List ℕ → Type 0
 OfRow r q new = (answerOf q ≡ r .answer) × (recordsIn q ≡ r .records) × (new ≡ r .left)
 
-list-row : (r : ListRow) (w : Stop) → Right (HasRoom (length (r .lent))) (r .text) (r .from) w → listGiven r w ≡ r ∷ [] → RowListing r
+list-row : (r : ListRow) (w : Stop) → Right (HasRoom (length (r .lent))) (r .source) (r .from) w → listGiven r w ≡ r ∷ [] → RowListing r
 list-row r nowhere x e = absurd (nil≢cons e)
 list-row r (stop l to there) (p, g, stuck) e =
     let same = sym (head-eq-of-cons-eq e) in
@@ -175,11 +175,11 @@ list-row r (stop l to there) (p, g, stuck) e =
 
 -- a row's answer, number of records and list are those of the definition, and whatever meets the contract of `list` answers and leaves so
 abbrev pub ListSo : ListRow → Type 0
-ListSo r = RowListing r × ((q : Listed) (new : List ℕ) → Lists (r .text) (r .from) (r .lent) q new → OfRow r q new)
+ListSo r = RowListing r × ((q : Listed) (new : List ℕ) → Lists (r .source) (r .from) (r .lent) q new → OfRow r q new)
 
 -- no text of the table is too long
 abbrev fits : ListRow → Bool
-fits r = leb (length (r .text)) longestText
+fits r = leb (length (r .source .text)) longestText
 
 all-fit : every fits lists ≡ true
 unfolding lists
@@ -189,10 +189,10 @@ list-so : (r : ListRow) → fits r ≡ true → RowListing r → ListSo r
 unfolding Lists
 list-so r f x = (x, so)
   where
-    so : (q : Listed) (new : List ℕ) → Lists (r .text) (r .from) (r .lent) q new → OfRow r q new
-    so q new (inl (h, x, y, z)) = let l = leb→le (length (r .text)) longestText (subst T (sym f) tt) in absurd (omega arith)
+    so : (q : Listed) (new : List ℕ) → Lists (r .source) (r .from) (r .lent) q new → OfRow r q new
+    so q new (inl (h, x, y, z)) = let l = leb→le (length (r .source .text)) longestText (subst T (sym f) tt) in absurd (omega arith)
     so q new (inr (h, y)) =
-        listing-unique (r .text) (r .from) (r .lent) (answerOf q) (r .answer) (recordsIn q) (r .records) new (r .left) y x
+        listing-unique (r .source) (r .from) (r .lent) (answerOf q) (r .answer) (recordsIn q) (r .records) new (r .left) y x
 
 -- The rows of the table hold of List.
 pub list-texts : Every ListSo lists
@@ -202,7 +202,7 @@ list-texts = every-row lists computed-lists all-fit
     every-row [] e f = tt
     every-row (r ∷ l) e f =
         let n = length (r .lent) in
-        let right = from-here (HasRoom n) (hasRoom n) (room-decides n) (r .text) (r .from) 20 in (
+        let right = from-here (HasRoom n) (hasRoom n) (room-decides n) (r .source) (r .from) 20 in (
           list-so r (and-left (fits r) (every fits l) f) (list-row r (listWalk r) right (head-eq-of-cons-eq e)),
           every-row l (tail-eq-of-cons-eq e) (and-right (fits r) (every fits l) f),
         )

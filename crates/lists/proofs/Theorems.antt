@@ -13,7 +13,7 @@ use lib.ListN.{length, take, drop}
 use Rattle.keywords.specs.Kinds.{kind}
 use Rattle.grammar.specs.Classes.{rules}
 use Rattle.grammar.specs.Answers.{Answer, token, end, refusal, isRefusal}
-use Rattle.grammar.specs.Longest.{Gives}
+use Rattle.grammar.specs.Longest.{Source, Next}
 use Rattle.grammar.proofs.Tokens.{told, refuses}
 use Rattle.lexer.specs.declared.cursor.Cursor.{Cursor}
 use Rattle.lexer.specs.declared.lexed.Refusal.{Refusal}
@@ -35,7 +35,7 @@ use Rattle.lists.proofs.WalkLaws.{legal, is-legal, refusal-no-token, kn
 use Rattle.lists.proofs.GaplessLaws.{passes-follow, passes-each, always-ends, gapless}
 
 -- What List's lexemes are.
-pub gapless-run-of-longest-in-one-class : (s : List ℕ) (from : ℕ) (old : List ℕ) (r : Listed) (new : List ℕ) → length s ≤ longestText
+pub gapless-run-of-longest-in-one-class : (s : Source) (from : ℕ) (old : List ℕ) (r : Listed) (new : List ℕ) → length (s .text) ≤ longestText
     → Lists s from old r new → Gapless s from old (answerOf r) (recordsIn r) new
 unfolding Lists
 gapless-run-of-longest-in-one-class s from old r new h (inl (l, x, y, z)) = absurd (omega arith)
@@ -73,7 +73,7 @@ same-values : (r q : Listed) → answerOf r ≡ answerOf q → recordsIn r ≡ r
 same-values r q a m =
     sym (listed-back r) ∙ ap (λ (b : Answer). listedOf b (recordsIn r)) a ∙ ap (listedOf (answerOf q)) m ∙ listed-back q
 
-pub listing-unique : (s : List ℕ) (from : ℕ) (old : List ℕ) (a b : Answer) (m n : ℕ) (new new′ : List ℕ)
+pub listing-unique : (s : Source) (from : ℕ) (old : List ℕ) (a b : Answer) (m n : ℕ) (new new′ : List ℕ)
     → Listing s from old a m new → Listing s from old b n new′ → (a ≡ b) × (m ≡ n) × (new ≡ new′)
 listing-unique s from old a b m n new new′ x y =
     let (p, q, t) = walk-one (HasRoom (length old)) s from (x .walk) (y .walk) in (
@@ -83,7 +83,7 @@ listing-unique s from old a b m n new new′ x y =
     )
 
 -- The contract of `list` leaves one answer and one list.
-pub list-unique : (s : List ℕ) (from : ℕ) (old : List ℕ) (r q : Listed) (new new′ : List ℕ)
+pub list-unique : (s : Source) (from : ℕ) (old : List ℕ) (r q : Listed) (new new′ : List ℕ)
     → Lists s from old r new → Lists s from old q new′ → (r ≡ q) × (new ≡ new′)
 unfolding Lists
 list-unique s from old r q new new′ (inl (h, x, y, z)) (inl (k, u, v, w)) = (same-values r q (x ∙ sym u) (y ∙ sym v), z ∙ sym w)
@@ -106,26 +106,26 @@ statement-back (Open start n next) = refl
 statement-back (Over next) = refl
 statement-back (Bad why start n next) = ap (λ (w : Refusal). Bad w start n next) (refusal-back why)
 
-pub cutting-unique : (s : List ℕ) (from : ℕ) (a b : CutAnswer) → Cutting s from a → Cutting s from b → a ≡ b
+pub cutting-unique : (s : Source) (from : ℕ) (a b : CutAnswer) → Cutting s from a → Cutting s from b → a ≡ b
 cutting-unique s from a b x y =
     let (p, e, t) = walk-one NoSemi s from (x .walk) (y .walk) in
     x .answers ∙ ap (λ (l : List Legal). cutAnswer from (someNotNone l) (x .walk .there)) p ∙
     ap (cutAnswer from (someNotNone (y .walk .passed))) t ∙ sym (y .answers)
 
 -- The contract of `cut` leaves one answer.
-pub cut-unique : (s : List ℕ) (from : ℕ) (r q : Statement) → Cuts s from r → Cuts s from q → r ≡ q
+pub cut-unique : (s : Source) (from : ℕ) (r q : Statement) → Cuts s from r → Cuts s from q → r ≡ q
 unfolding Cuts
 cut-unique s from r q x y =
     sym (statement-back r) ∙ ap statementOf (cutting-unique s from (valuesOf r) (valuesOf q) x y) ∙ statement-back q
 
 -- A text that is too long is refused first; the list stays as it was.
-pub too-long : (s : List ℕ) (from : ℕ) (old : List ℕ) (r : Listed) (new : List ℕ) → longestText < length s → Lists s from old r new
+pub too-long : (s : Source) (from : ℕ) (old : List ℕ) (r : Listed) (new : List ℕ) → longestText < length (s .text) → Lists s from old r new
     → (r ≡ TooLong (cursor from)) × (new ≡ old)
 unfolding Lists
 too-long s from old r new h x = list-unique s from old r (TooLong (cursor from)) new old x (inl (h, refl, refl, refl))
 
 -- Then an offset past the end; the list stays as it was.
-pub past-end : (s : List ℕ) (from : ℕ) (old : List ℕ) (r : Listed) (new : List ℕ) → length s ≤ longestText → length s < from
+pub past-end : (s : Source) (from : ℕ) (old : List ℕ) (r : Listed) (new : List ℕ) → length (s .text) ≤ longestText → length (s .text) < from
     → Lists s from old r new → (r ≡ Refused OffsetPastEnd 0 0 0 (cursor from)) × (new ≡ old)
 unfolding Lists Passes recordsOf
 past-end s from old r new short h x =
@@ -145,18 +145,18 @@ past-end s from old r new short h x =
     here : Listing s from old (refusal (numberOf OffsetPastEnd) 0 0 from) 0 old
     here = record { walk = walk; answers = refl; counted = refl; written = refl }
 
-ends-so : (s : List ℕ) (numbers : ℕ) (l : List Legal) (to offset : ℕ) → Ends s numbers l to (end offset)
-    → (offset ≡ to) × (to ≡ length s)
+ends-so : (s : Source) (numbers : ℕ) (l : List Legal) (to offset : ℕ) → Ends s numbers l to (end offset)
+    → (offset ≡ to) × (to ≡ length (s .text))
 ends-so s numbers l to offset (inl (inl (h, e))) = let z : _≡_ {A = ℕ} 0 1 = cc in absurd (omega arith)
 ends-so s numbers l to offset (inl (inr (inl (h, e)))) = (cc, h)
 ends-so s numbers l to offset (inl (inr (inr (n, (c, bad, x, e))))) =
-    let f = ap isRefusal e ∙ refuses c to (take n (drop to s)) ∙ bad in
+    let f = ap isRefusal e ∙ refuses c to (take n (drop to (s .text))) ∙ bad in
     absurd (true≢false (sym f))
 ends-so s numbers l to offset (inr (t, c, f, e)) = let z : _≡_ {A = ℕ} 0 1 = cc in absurd (omega arith)
 
 -- Where no refusal comes, the lexemes that the list has lead to the text's length.
-pub reaches-the-end : (s : List ℕ) (from : ℕ) (old : List ℕ) (n : ℕ) (next : Cursor) (new : List ℕ) → Lists s from old (End n next) new
-    → (next .at ≡ length s) × (g : Gapless s from old (end (next .at)) n new) × (g .to ≡ length s)
+pub reaches-the-end : (s : Source) (from : ℕ) (old : List ℕ) (n : ℕ) (next : Cursor) (new : List ℕ) → Lists s from old (End n next) new
+    → (next .at ≡ length (s .text)) × (g : Gapless s from old (end (next .at)) n new) × (g .to ≡ length (s .text))
 unfolding Lists
 reaches-the-end s from old n next new (inl (h, e, f, g)) = let z : _≡_ {A = ℕ} 0 1 = cc in absurd (omega arith)
 reaches-the-end s from old n next new (inr (h, x)) =
@@ -165,11 +165,11 @@ reaches-the-end s from old n next new (inr (h, x)) =
     (o ∙ e, g, e)
 
 -- What ends a cut is a semicolon, up to and with which its span goes.
-abbrev pub ToSemi : List ℕ → ℕ → ℕ → ℕ → Type 0
+abbrev pub ToSemi : Source → ℕ → ℕ → ℕ → Type 0
 ToSemi s from start n =
-    (start ≡ from) × (t : Legal) × Gives rules s (t .start) (tokenOf t) × (t .kind ≡ kind "TK_SEMI") × (start + n ≡ t .start + t .length)
+    (start ≡ from) × (t : Legal) × Next s (t .start) (tokenOf t) × (t .kind ≡ kind "TK_SEMI") × (start + n ≡ t .start + t .length)
 
-pub cut-ends-with-semi : (s : List ℕ) (from start n : ℕ) (any : Bool) (next : Cursor) → Cuts s from (Cut start n any next)
+pub cut-ends-with-semi : (s : Source) (from start n : ℕ) (any : Bool) (next : Cursor) → Cuts s from (Cut start n any next)
     → ToSemi s from start n
 unfolding Cuts
 cut-ends-with-semi s from start n any next x = by-answer (x .walk .there) (x .walk .gives) (x .walk .stops) (x .answers)
@@ -178,11 +178,11 @@ cut-ends-with-semi s from start n any next x = by-answer (x .walk .there) (x .wa
     not-at-end true offset e = let z : _≡_ {A = ℕ} 0 1 = cc in omega arith
     not-at-end false offset e = let z : _≡_ {A = ℕ} 0 1 = cc in omega arith
 
-    by-answer : (a : Answer) → Gives rules s (x .walk .to) a → ((t : Legal) → a ≡ tokenOf t → NoSemi (x .walk .passed) t → ⊥)
+    by-answer : (a : Answer) → Next s (x .walk .to) a → ((t : Legal) → a ≡ tokenOf t → NoSemi (x .walk .passed) t → ⊥)
         → cut start n any (next .at) ≡ cutAnswer from (someNotNone (x .walk .passed)) a
         → ToSemi s from start n
     by-answer (token k begin m behind d u) g stuck e =
-        let o = told s (x .walk .to) k begin m behind d u g in
+        let o = told (s .profile) (s .text) (x .walk .to) k begin m behind d u g in
         let t = legal k begin m d u in
         let same = is-legal s (x .walk .to) k begin m behind d u g in
         let semi = known k (kind "TK_SEMI") (stuck t same) in
@@ -191,13 +191,13 @@ cut-ends-with-semi s from start n any next x = by-answer (x .walk .there) (x .wa
         let q : n ≡ behind - from = cc in
         let b = o .goes in
         let c = o .starts in
-        (p, t, subst₂ (Gives rules s) (sym c) same g, semi, omega arith)
+        (p, t, subst₂ (Next s) (sym c) same g, semi, omega arith)
     by-answer (end offset) g stuck e = absurd (not-at-end (someNotNone (x .walk .passed)) offset e)
     by-answer (refusal k begin m offset) g stuck e = let z : _≡_ {A = ℕ} 0 1 = cc in absurd (omega arith)
 
 -- Every text, of any length, has one run of lexemes from every offset. They follow one another, each the longest and in one class, and they
 -- end past the end, at the end, or at a malformed lexeme, whose class gives the refusal.
-pub one-run : (s : List ℕ) (from : ℕ)
+pub one-run : (s : Source) (from : ℕ)
     → (w : Walk Always s from) ×
     Follow from (w .passed) (w .to) ×
     Each s (w .passed) ×

@@ -9,15 +9,15 @@ use mathlib.Core.Logic.{_⊎_}
 use lib.ListN.{length, take, drop}
 use Rattle.grammar.specs.Classes.{Class, malformed, rules}
 use Rattle.grammar.specs.Answers.{Answer, end, pastEnd, answer}
-use Rattle.grammar.specs.Longest.{Every, Longest}
+use Rattle.grammar.specs.Longest.{Every, Longest, Source}
 use Rattle.lists.specs.Walk.{Legal, tokenOf}
 use Rattle.lists.specs.Lists.{recordsOf, listFull, HasRoom}
 
 -- the first n bytes at a place are the longest opening that stands in any class; they stand in exactly one, which is malformed or not, and
 -- that class answers a
-abbrev pub InOneClass : Bool → List ℕ → ℕ → ℕ → Answer → Type 0
+abbrev pub InOneClass : Bool → Source → ℕ → ℕ → Answer → Type 0
 InOneClass bad s at n a =
-    (c : Class) × (malformed c ≡ bad) × Longest rules (drop at s) c n × (a ≡ answer c at (take n (drop at s)))
+    (c : Class) × (malformed c ≡ bad) × Longest (rules (s .profile)) (drop at (s .text)) c n × (a ≡ answer c at (take n (drop at (s .text))))
 
 -- the lexemes follow one another from one place to another, without gap or overlap; none is empty
 unfoldable pub Follow : ℕ → List Legal → ℕ → Type 0
@@ -25,21 +25,21 @@ Follow from [] to = from ≡ to
 Follow from (t ∷ l) to = (t .start ≡ from) × (0 < t .length) × Follow (from + t .length) l to
 
 -- each is legal
-abbrev pub Each : List ℕ → List Legal → Type 0
+abbrev pub Each : Source → List Legal → Type 0
 Each s lexemes = Every (λ t. InOneClass false s (t .start) (t .length) (tokenOf t)) lexemes
 
 -- where a run of lexemes ends: past the end of the text, at its end, or at a malformed one, whose class gives the refusal
-abbrev pub RunEnds : List ℕ → ℕ → Answer → Type 0
-RunEnds s to a = ((length s < to) × (a ≡ pastEnd to)) ⊎ ((to ≡ length s) × (a ≡ end to)) ⊎ ((n : ℕ) × InOneClass true s to n a)
+abbrev pub RunEnds : Source → ℕ → Answer → Type 0
+RunEnds s to a = ((length (s .text) < to) × (a ≡ pastEnd to)) ⊎ ((to ≡ length (s .text)) × (a ≡ end to)) ⊎ ((n : ℕ) × InOneClass true s to n a)
 
 -- List ends there too, or at a legal one for which there is no room
-abbrev pub Ends : List ℕ → ℕ → List Legal → ℕ → Answer → Type 0
+abbrev pub Ends : Source → ℕ → List Legal → ℕ → Answer → Type 0
 Ends s room lexemes to a =
     RunEnds s to a ⊎
     ((t : Legal) × InOneClass false s to (t .length) (tokenOf t) × (HasRoom room lexemes t → ⊥) × (a ≡ listFull to))
 
 -- the whole: the answer and the records written belong to such lexemes, and the list begins with their records
-pub record Gapless (s : List ℕ) (from : ℕ) (old : List ℕ) (a : Answer) (records : ℕ) (new : List ℕ) : Type 0 where
+pub record Gapless (s : Source) (from : ℕ) (old : List ℕ) (a : Answer) (records : ℕ) (new : List ℕ) : Type 0 where
   pub lexemes : List Legal
   pub to : ℕ
   pub follow : Follow from lexemes to

@@ -5,6 +5,7 @@ use mathlib.Core.List.{List, [], _∷_, _++_}
 use mathlib.Core.Logic.{_⊎_}
 use lib.ListN.{length, drop, set}
 use Rattle.grammar.specs.Answers.{Answer, token, end, refusal}
+use Rattle.grammar.specs.Longest.{Source}
 use Rattle.lexer.specs.Values.{numberOf}
 use Rattle.lists.specs.declared.list.Listed.{Listed}
 use Rattle.lists.specs.declared.list.Listed.the-variants.{End, Refused, TooLong, ListFull}
@@ -37,7 +38,7 @@ listAnswer at (end offset) = end offset
 listAnswer at (refusal number start n offset) = refusal number start n offset
 
 -- List from a place of a text, lent a list: its answer, how many records it wrote, and the list afterwards
-pub record Listing (s : List ℕ) (from : ℕ) (old : List ℕ) (answer : Answer) (records : ℕ) (new : List ℕ) : Type 0 where
+pub record Listing (s : Source) (from : ℕ) (old : List ℕ) (answer : Answer) (records : ℕ) (new : List ℕ) : Type 0 where
   pub walk : Walk (HasRoom (length old)) s from
   pub answers : answer ≡ listAnswer (walk .to) (walk .there)
   pub counted : records ≡ length (walk .passed)
@@ -61,10 +62,10 @@ abbrev pub longestText : ℕ
 longestText = 65535
 
 -- the answer r, and the list afterwards: a text that is too long is refused first
-unfoldable pub Lists : List ℕ → ℕ → List ℕ → Listed → List ℕ → Type 0
+unfoldable pub Lists : Source → ℕ → List ℕ → Listed → List ℕ → Type 0
 Lists s from old r new =
-    ((longestText < length s) × (answerOf r ≡ tooLong from) × (recordsIn r ≡ 0) × (new ≡ old)) ⊎
-    ((length s ≤ longestText) × Listing s from old (answerOf r) (recordsIn r) new)
+    ((longestText < length (s .text)) × (answerOf r ≡ tooLong from) × (recordsIn r ≡ 0) × (new ≡ old)) ⊎
+    ((length (s .text) ≤ longestText) × Listing s from old (answerOf r) (recordsIn r) new)
 
 -- for a private function: three numbers at a place of a list
 abbrev pub put : List ℕ → ℕ → ℕ → ℕ → ℕ → List ℕ

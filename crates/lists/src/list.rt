@@ -1,4 +1,5 @@
 // A text's records into a lent list of numbers.
+use grammar::profile::Profile;
 use lexer::cursor::Cursor;
 use lexer::lexed::Lexed;
 use lexer::lexed::Refusal;
@@ -6,6 +7,7 @@ use lexer::next::next;
 ghost use mathlib.Core.Path.{_≡_};
 ghost use Prim.Native.Nat.{_+_, _≤_};
 ghost use lib.ListN.{length};
+ghost use Rattle.grammar.specs.Longest.{source};
 ghost use Rattle.lists.specs.Lists.{Lists, put};
 
 // The longest text that `list` takes.
@@ -38,8 +40,8 @@ pub enum Listed {
 }
 
 // A record for each legal lexeme from the cursor on: kind, start, length.
-pub fn list(text: &[u8], cursor: Cursor, numbers: &mut [u32]) -> Listed
-    ensures { λ r. ⌜ Lists (now (text .entry)) (cursor .at) (now (numbers .entry)) r (now (numbers .exit)) ⌝ }
+pub fn list(text: &[u8], cursor: Cursor, profile: Profile, numbers: &mut [u32]) -> Listed
+    ensures { λ r. ⌜ Lists (source profile (now (text .entry))) (cursor .at) (now (numbers .entry)) r (now (numbers .exit)) ⌝ }
 {
     if LONGEST_TEXT < text.len() {
         return Listed::TooLong { next: cursor };
@@ -48,7 +50,7 @@ pub fn list(text: &[u8], cursor: Cursor, numbers: &mut [u32]) -> Listed
     let mut records = 0;
     let mut filled = 0;
     loop {
-        match next(text, at) {
+        match next(text, at, profile) {
             Lexed::Token {
                 kind,
                 start,

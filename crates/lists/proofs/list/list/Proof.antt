@@ -4,7 +4,8 @@ use native.Mathlib.Omega.{arith}
 use mathlib.Core.Path.{subst, refl}
 use lib.ListN.{length}
 use borrow.Author.Needs.{needs}
-use Rattle.lexer.specs.Values.{Lexes}
+use Rattle.grammar.specs.Longest.{source}
+use Rattle.lexer.specs.Values.{LexesUnder}
 use Rattle.lexer.proofs.Moves.{moves}
 use Rattle.lists.specs.Lists.{longestText}
 use Rattle.lists.proofs.WalkLaws.{token-told}
@@ -13,11 +14,11 @@ use Rattle.lists.proofs.list.list.Statement.{statement}
 use Rattle.lists.proofs.list.list.Tie as tie
 
 abbrev Inv-loop : tie.InvT-loop
-Inv-loop text numbers₀ at₀ records₀ filled₀ numbers at records filled =
-    Inside text (at₀ .at) numbers₀ numbers (at .at) records filled × (length text ≤ longestText)
+Inv-loop text profile numbers₀ at₀ records₀ filled₀ numbers at records filled =
+    Inside (source profile text) (at₀ .at) numbers₀ numbers (at .at) records filled × (length text ≤ longestText)
 
 abbrev μ-loop : tie.MeasureT-loop
-μ-loop text numbers₀ at₀ records₀ filled₀ numbers at records filled = length text - at .at
+μ-loop text profile numbers₀ at₀ records₀ filled₀ numbers at records filled = length text - at .at
 
 returns : tie.Need-returns Inv-loop μ-loop
 returns c =
@@ -52,14 +53,14 @@ returns-2 c =
     let kind = c .before .before .kind in
     let next = c .before .before .before .before .next in
     let loop = c .before .before .before .before .before .loop in
-    full-lists (loop .inv .0) (loop .inv .1) _ refl _ _ _ _ _ _ (subst (Lexes _ _) (kind .given .1) (next .ensures)) (if2 .taken)
+    full-lists (loop .inv .0) (loop .inv .1) _ refl _ _ _ _ _ _ (subst (LexesUnder _ _ _) (kind .given .1) (next .ensures)) (if2 .taken)
 
 cast-put-record : tie.Need-cast-put-record Inv-loop μ-loop
 cast-put-record c =
     let kind = c .before .before .before .kind in
     let next = c .before .before .before .before .before .next in
     let loop = c .before .before .before .before .before .before .loop in
-    let t = token-told _ _ _ _ _ _ _ _ (subst (Lexes _ _) (kind .given .1) (next .ensures)) in
+    let t = token-told _ _ _ _ _ _ _ _ (subst (LexesUnder _ _ _) (kind .given .1) (next .ensures)) in
     omega (arith, t .starts, t .goes, t .inside, loop .inv .1)
 
 cast-put-record-2 : tie.Need-cast-put-record-2 Inv-loop μ-loop
@@ -67,7 +68,7 @@ cast-put-record-2 c =
     let kind = c .before .before .before .kind in
     let next = c .before .before .before .before .before .next in
     let loop = c .before .before .before .before .before .before .loop in
-    let t = token-told _ _ _ _ _ _ _ _ (subst (Lexes _ _) (kind .given .1) (next .ensures)) in
+    let t = token-told _ _ _ _ _ _ _ _ (subst (LexesUnder _ _ _) (kind .given .1) (next .ensures)) in
     omega (arith, t .starts, t .goes, t .inside, loop .inv .1)
 
 put-record-requires : tie.Need-put-record-requires Inv-loop μ-loop
@@ -95,7 +96,7 @@ loop-less : tie.Need-loop-less Inv-loop μ-loop
 loop-less c =
     let kind = c .before .before .before .before .before .before .kind in
     let next = c .before .before .before .before .before .before .before .before .next in
-    let t = moves _ _ _ _ _ _ _ _ (subst (Lexes _ _) (kind .given .1) (next .ensures)) in
+    let t = moves _ _ _ _ _ _ _ _ _ (subst (LexesUnder _ _ _) (kind .given .1) (next .ensures)) in
     omega arith
 
 loop-again : tie.Need-loop-again Inv-loop μ-loop
@@ -105,7 +106,7 @@ loop-again c =
     let kind = c .before .before .before .before .before .before .kind in
     let next = c .before .before .before .before .before .before .before .before .next in
     let loop = c .before .before .before .before .before .before .before .before .before .loop in
-    let go = onward (loop .inv .0) _ _ _ _ _ _ (subst (Lexes _ _) (kind .given .1) (next .ensures)) (omega (arith, if2 .left)) in
+    let go = onward (loop .inv .0) _ _ _ _ _ _ (subst (LexesUnder _ _ _) (kind .given .1) (next .ensures)) (omega (arith, if2 .left)) in
     (rw (put-record .ensures) go, loop .inv .1)
 
 enum-known-next : tie.Need-enum-known-next Inv-loop μ-loop
@@ -119,7 +120,7 @@ returns-3 c =
     let next2 = c .before .next2 in
     let next = c .before .before .before .next in
     let loop = c .before .before .before .before .loop in
-    end-lists (loop .inv .0) (loop .inv .1) _ (subst (Lexes _ _) (next2 .given .1) (next .ensures))
+    end-lists (loop .inv .0) (loop .inv .1) _ (subst (LexesUnder _ _ _) (next2 .given .1) (next .ensures))
 
 enum-known-why : tie.Need-enum-known-why Inv-loop μ-loop
 enum-known-why c = search needs
@@ -132,7 +133,7 @@ returns-4 c =
     let why = c .before .why in
     let next = c .before .before .before .next in
     let loop = c .before .before .before .before .loop in
-    refusal-lists (loop .inv .0) (loop .inv .1) _ _ _ _ (subst (Lexes _ _) (why .given .1) (next .ensures))
+    refusal-lists (loop .inv .0) (loop .inv .1) _ _ _ _ (subst (LexesUnder _ _ _) (why .given .1) (next .ensures))
 
 pub list-spec : {M : Type 1} → statement M
 list-spec =
