@@ -1,5 +1,5 @@
--- A method of a reader that passes its two fields on to a covered function and gives what that gives: one walk of its MIR, by hand, for
--- every such method. All that the walk knows of the callee is that it meets its contract.
+-- A method of a reader that passes its text and its offset on to a covered function and gives what that gives: one walk of its MIR, by
+-- hand, for every such method. All that the walk knows of the callee is that it meets its contract.
 --     passing τ f      the method's MIR: τ is the result's type, f the callee
 --     methodS, calleeS     the two signatures.        callee     the callee's contract: it says φ of the text, the offset and the result
 --     promising p      a contract of the method, with no `requires`
@@ -18,7 +18,7 @@ use prog.Wp.{Heap, Calls, Loops, WpFn, Tables}
 use ghost.Atoms.{Atoms, sem}
 use contract.Lifetimes.{Lfts}
 use contract.Monad.{fact}
-use types.Kit.{Given, ‵, raw, _⊛_, ⋆, some, later, _$_, _∵_, !, qed, by, move, use1, split, join, pick, fjoin, suffices, frame, await, done}
+use types.Kit.{Given, ‵, raw, _⊛_, ⋆, some, later, _$_, _∵_, !, qed, by, move, drop, use1, split, join, pick, fsplit, fjoin, suffices, frame, await, done}
 use types.Part.{whole, sub, look-in}
 use types.Run.{look, init, forget, stop, fld, from, load, of-opd, and-then, no-more, assigns, land, returns, enter, alloc1, alloc0, params1, pass1, pass0, free1, free0}
 use sound.WpLaws.{FmC, fmOf, WpFn-mono}
@@ -27,7 +27,7 @@ use denote.Laws.{Is, shows}
 use denote.Builtin.{u8, usize, SliceRefOf}
 use denote.Ref.{RefT}
 use denote.Signature.{Slot, plain}
-use denote.Slice.{sliceTy, ShrSlice}
+use denote.Slice.{sliceTy}
 use denote.Steps.{peeks, heard, nothing}
 use denote.Struct.Laws as LL
 use denote.Triple.Statement.{Contract, Triple}
@@ -39,7 +39,7 @@ use denote.Exit.{yes}
 use denote.Triple.Clauses.{AtExit, Clauses, Ended, closing, ensured, lasts}
 use Rattle.reader.specs.declared.Reader.{Reader}
 use Rattle.reader.proofs.Reader.Laws as T′
-use Rattle.reader.proofs.Held.{B, D, L, Own, passed, apart}
+use Rattle.reader.proofs.Held.{B, D, L, values, Fields, passed, machine, Own, apart}
 
 abbrev pub passing : Ty → Name → Fn
 passing τ f = record {
@@ -98,7 +98,7 @@ module _ {M : Type 1} (𝓤 : URA M) (H : Heap 𝓤) (A : Atoms 𝓤) (res : Slo
 
 module _ {M : Type 1} (𝓤 : URA M) (H : Heap 𝓤) (A : Atoms 𝓤) (W : Given 𝓤 H A) (res : Slot 1) (φ : Fact res) (κ : Lft) (q : Share) (d : Reader) where
   abbrev mach : Val
-  mach = T′.lowered d
+  mach = machine d
 
   abbrev R : RattleType
   R = res .row (κ, tt)
@@ -110,11 +110,13 @@ module _ {M : Type 1} (𝓤 : URA M) (H : Heap 𝓤) (A : Atoms 𝓤) (W : Given
   Post = walkOf 𝓤 H A (methodS res) (stayed res) (method 𝓤 res φ) .post (((κ, tt), (q, tt), tt, (d, tt), (mach ∷ [], tt)), tt)
 
   abbrev to : Callee 𝓤 H A res φ .Ghost
-  to = (((κ, tt), (q, tt), tt, (d .text, (d .offset, tt)), passed d), tt)
+  to = (((κ, tt), (q, tt), tt, (d .text, (d .offset, tt)), (passed d .0, (passed d .1 .0, tt))), tt)
 
-  asked : ent 𝓤 (onEntry 𝓤 H A (calleeS res .signature) (κ, tt) (q, tt) (d .text, (d .offset, tt)) (passed d)) (Callee 𝓤 H A res φ .pre to)
-  asked = qed W ((‵ (flft κ q) ⊛ ‵ ftrue) ∷ ‵ (owns (ShrSlice (named 0) κ u8 ∷ usize ∷ []) (d .text, (d .offset, tt)) (passed d)) ∷ []) ∵ join ! $
-      frame ! $ done !
+  -- of what the fields own the callee takes the text's and the offset's
+  asked : ent 𝓤 (⋆ 𝓤 H A ((‵ (flft κ q) ⊛ ‵ ftrue) ∷ ‵ (owns (Fields κ) (values d) (passed d)) ∷ [])) (Callee 𝓤 H A res φ .pre to)
+  asked = qed W ((‵ (flft κ q) ⊛ ‵ ftrue) ∷ ‵ (owns (Fields κ) (values d) (passed d)) ∷ []) ∵
+      move ! (1 ∷ []) $ fsplit ! $ move ! (1 ∷ []) $ fsplit ! $ move ! (1 ∷ []) $ drop ! $ nothing ! $ move ! (1 ∷ 0 ∷ []) $ fjoin ! $
+      move ! (1 ∷ 0 ∷ []) $ fjoin ! $ move ! (1 ∷ []) $ join ! $ frame ! $ done !
 
   -- of the callee's `ensured`, the clause alone
   said : (r : R .Denot) → ent 𝓤 (ensured 𝓤 H A (calleeS res) (callee 𝓤 res φ) (κ, tt) (d .text, (d .offset, tt)) tt r) (fact 𝓤 (said-of r))

@@ -1,4 +1,5 @@
-// A reader that carries its text. Each call takes it apart and asks the by-value core; what moves hands the moved reader back.
+// A reader that carries its text and its profile. Each call takes it apart and asks the by-value core; what moves hands the moved reader back.
+use grammar::profile::Profile;
 use lexer::cursor::Cursor;
 use lexer::cursor::Peek;
 use lexer::lexed::Lexed;
@@ -6,13 +7,14 @@ use lexer::next::next;
 ghost use mathlib.Core.Path.{_≡_};
 ghost use lib.ListN.{drop};
 ghost use Rattle.lexer.specs.Eaten.{head};
-ghost use Rattle.lexer.specs.Values.{Lexes};
+ghost use Rattle.lexer.specs.Values.{LexesUnder};
 ghost use Rattle.reader.specs.Reads.{ReadsOn, Remains, offsetOf, begun};
 
-// The offset may be any number.
+// The offset may be any number. A reader keeps its text and its profile as it moves.
 pub struct Reader<'a> {
     pub text: &'a [u8],
     pub offset: usize,
+    pub profile: Profile,
 }
 
 // What `next` gives: the answer, and the reader at the offset that the answer leaves.
@@ -22,10 +24,14 @@ pub struct Read<'a> {
 }
 
 impl<'a> Reader<'a> {
-    pub fn new(text: &'a [u8]) -> Reader<'a>
-        ensures { λ r. ⌜ r ≡ begun (text .entry) ⌝ }
+    pub fn new(text: &'a [u8], profile: Profile) -> Reader<'a>
+        ensures { λ r. ⌜ r ≡ begun (text .entry) profile ⌝ }
     {
-        Reader { text, offset: 0 }
+        Reader {
+            text,
+            offset: 0,
+            profile,
+        }
     }
 
     // The bytes from the offset on; past the end, none.
@@ -44,22 +50,27 @@ impl<'a> Reader<'a> {
     pub fn next(self) -> Read<'a>
         ensures { λ r. ⌜ ReadsOn (self .entry) r ⌝ }
     {
-        let moved = next_at(self.text, self.offset);
+        let moved = next_at(self.text, self.offset, self.profile);
         Read {
             lexed: moved.lexed,
             reader: Reader {
                 text: self.text,
                 offset: moved.offset,
+                profile: self.profile,
             },
         }
     }
 }
 
 // The answer at an offset, through a reader: for callers that hold none.
-pub fn read_at(text: &[u8], offset: usize) -> Lexed
-    ensures { λ r. ⌜ Lexes (now (text .entry)) offset r ⌝ }
+pub fn read_at(text: &[u8], offset: usize, profile: Profile) -> Lexed
+    ensures { λ r. ⌜ LexesUnder profile (now (text .entry)) offset r ⌝ }
 {
-    let read = Reader { text, offset }.next();
+    let read = Reader {
+        text,
+        offset,
+        profile,
+    }.next();
     read.lexed
 }
 
@@ -85,10 +96,10 @@ struct Moved {
     offset: usize,
 }
 
-fn next_at(text: &[u8], offset: usize) -> Moved
-    ensures { λ r. ⌜ Lexes (now (text .entry)) offset (r .lexed) × (r .offset ≡ offsetOf (r .lexed)) ⌝ }
+fn next_at(text: &[u8], offset: usize, profile: Profile) -> Moved
+    ensures { λ r. ⌜ LexesUnder profile (now (text .entry)) offset (r .lexed) × (r .offset ≡ offsetOf (r .lexed)) ⌝ }
 {
-    let lexed = next(text, Cursor { at: offset });
+    let lexed = next(text, Cursor { at: offset }, profile);
     match lexed {
         Lexed::Token {
             kind: _,

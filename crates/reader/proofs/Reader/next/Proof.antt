@@ -1,7 +1,7 @@
 -- `reader::Reader::next` meets its contract: a walk of its MIR, by hand. The reader is taken apart and `next_at` is called on its fields; the
--- answer goes into the result beside a reader of the same text with the offset that `next_at` gives. All that the proof knows of `next_at`
--- is that it meets its contract. Assumes nothing.
-use mathlib.Core.Path.{_≡_, refl, subst}
+-- answer goes into the result beside a reader of the same text and profile with the offset that `next_at` gives. All that the proof knows of
+-- `next_at` is that it meets its contract. Assumes nothing.
+use mathlib.Core.Path.{_≡_, refl}
 use Prim.Native.Nat.{_<_, _^_}
 use mathlib.Core.List.{List, [], _∷_}
 use lib.Dec.{T as Holds}
@@ -24,10 +24,8 @@ use sound.WpLaws.{FmC, fmOf, WpFn-mono}
 use denote.RattleType.{owns}
 use denote.Laws.{Is, shows}
 use denote.Plain.{uint-makes}
-use denote.Builtin.{u8, usize}
+use denote.Builtin.{usize}
 use denote.Ref.{now}
-use denote.Signature.{namedLft}
-use denote.Slice.{ShrSlice}
 use denote.Steps.{owned, peeks, heard, nothing, only}
 use denote.Struct.At.{valAt}
 use denote.Struct.Laws as LL
@@ -40,7 +38,7 @@ use denote.Triple.Table.{entered, cited}
 use denote.Triple.Walked.{says, Stays, stay-none, walkOf, goes-none, Walks, ends-at, walked, walk-meets}
 use denote.Exit.{yes}
 use denote.Triple.Clauses.{ensured, lasts}
-use Rattle.lexer.specs.Values.{Lexes}
+use Rattle.lexer.specs.Values.{LexesUnder}
 use Rattle.reader.specs.declared.Reader.{Reader}
 use Rattle.reader.specs.declared.Read.{Read}
 use Rattle.reader.specs.declared.Moved.{Moved}
@@ -50,7 +48,7 @@ use Rattle.reader.proofs.Read as R
 use Rattle.reader.proofs.Read.Laws as R′
 use Rattle.reader.proofs.Moved as N
 use Rattle.reader.proofs.Moved.Laws as N′
-use Rattle.reader.proofs.Held.{B, D, L, Own, passed, apart}
+use Rattle.reader.proofs.Held.{α, αᵉ, B, D, L, values, Fields, passed, machine, Own, Facts, profile-typed, typed, apart}
 use Rattle.reader.proofs.next_at as next-at
 use Rattle.reader.proofs.next_at.Symbol as next-at-def
 use Rattle.reader.proofs.next_at.Symbol.{name as #reader·next-at}
@@ -71,24 +69,23 @@ module _ {M : Type 1} (𝓤 : URA M) (H : Heap 𝓤) (A : Atoms 𝓤) (mem : Mem
 module _ {M : Type 1} (𝓤 : URA M) (H : Heap 𝓤) (A : Atoms 𝓤) (W : Given 𝓤 H A) (mem : Memory → SProp 𝓤) (run : Routine → Fun 𝓤) (κ : Lft) (q : Share)
     (d : Reader) where
   abbrev mach : Val
-  mach = T′.lowered d
+  mach = machine d
 
   abbrev Post : Val → SProp 𝓤
   Post = walkOf 𝓤 H A next.ended stayed (next.clauses 𝓤 H A mem run) .post (((κ, tt), (q, tt), tt, (d, tt), (mach ∷ [], tt)), tt)
 
   abbrev to : NextAt 𝓤 H A mem run .Ghost
-  to = (((κ, tt), (q, tt), tt, (d .text, (d .offset, tt)), passed d), tt)
+  to = (((κ, tt), (q, tt), tt, values d, passed d), tt)
 
-  asked : ent 𝓤 (onEntry 𝓤 H A next-at.signature (κ, tt) (q, tt) (d .text, (d .offset, tt)) (passed d)) (NextAt 𝓤 H A mem run .pre to)
-  asked = qed W ((‵ (flft κ q) ⊛ ‵ ftrue) ∷ ‵ (owns (ShrSlice (named 0) κ u8 ∷ usize ∷ []) (d .text, (d .offset, tt)) (passed d)) ∷ []) ∵ join ! $
-      frame ! $ done !
+  asked : ent 𝓤 (onEntry 𝓤 H A next-at.signature (κ, tt) (q, tt) (values d) (passed d)) (NextAt 𝓤 H A mem run .pre to)
+  asked = qed W ((‵ (flft κ q) ⊛ ‵ ftrue) ∷ ‵ (owns (Fields κ) (values d) (passed d)) ∷ []) ∵ join ! $ frame ! $ done !
 
   -- what `next_at` says of its result
   abbrev Told : Moved → Type 0
-  Told r = Lexes (now (d .text)) (d .offset) (r .lexed) × (r .offset ≡ offsetOf (r .lexed))
+  Told r = LexesUnder (d .profile) (now (d .text)) (d .offset) (r .lexed) × (r .offset ≡ offsetOf (r .lexed))
 
-  said : (r : Moved) → ent 𝓤 (ensured 𝓤 H A next-at.ended (next-at.clauses 𝓤 H A mem run) (κ, tt) (d .text, (d .offset, tt)) tt r) (fact 𝓤 (Told r))
-  said r = exE 𝓤 _ (λ ws. snd∗ 𝓤 (sem 𝓤 H A (lasts next-at.ended (κ, tt) (d .text, (d .offset, tt)) ws)) (fact 𝓤 (Told r)))
+  said : (r : Moved) → ent 𝓤 (ensured 𝓤 H A next-at.ended (next-at.clauses 𝓤 H A mem run) (κ, tt) (values d) tt r) (fact 𝓤 (Told r))
+  said r = exE 𝓤 _ (λ ws. snd∗ 𝓤 (sem 𝓤 H A (lasts next-at.ended (κ, tt) (values d) ws)) (fact 𝓤 (Told r)))
 
   -- the machine value of an answer, and of what `next_at` gives
   abbrev answer : Moved → Val
@@ -97,77 +94,88 @@ module _ {M : Type 1} (𝓤 : URA M) (H : Heap 𝓤) (A : Atoms 𝓤) (W : Given
   abbrev low : Moved → Val
   low r = vstruct (vcons (answer r) (vcons (vint w64 (r .offset)) vnil))
 
-  low-typed : (r : Moved) (u : Val) → Is N.the-row r (u ∷ []) → u ∷ [] ≡ low r ∷ [] → Holds (hasTy N′.mir (low r)) × WT (low r)
-  low-typed r u is e = subst (λ (us : List Val). Holds (hasTy N′.mir (only us)) × WT (only us)) e
-      (LL.lawful N.the-type N′.the-laws 𝓤 H A W .typed r (u ∷ []) is .0)
-
   abbrev parts : Moved → Fml
   parts r = all-own (N.the-type .parts) N′.the-laws (r .lexed, (r .offset, tt))
 
   -- the reader moved, the result, and its machine value
   abbrev d′ : Moved → Reader
-  d′ r = record { text = d .text; offset = r .offset }
+  d′ r = record { text = d .text; offset = r .offset; profile = d .profile }
 
   abbrev result : Moved → Read
   result r = record { lexed = r .lexed; reader = d′ r }
 
   abbrev mach′ : Moved → Val
-  mach′ r = vstruct (vcons (answer r) (vcons (T′.lowered (d′ r)) vnil))
+  mach′ r = vstruct (vcons (answer r) (vcons (machine (d′ r)) vnil))
+
+  -- what the types know of the moved reader's fields, and that the result has its MIR type
+  moved-facts : Facts κ d → (r : Moved) (u : Val) → Is N.the-row r (u ∷ []) → Facts κ (d′ r)
+  moved-facts are r u is = (are .0, (LL.owed N.the-type N′.the-laws r (u ∷ []) is .1 .0, are .1 .1))
+
+  result-typed : Facts κ d → (r : Moved) (u : Val) → Is N.the-row r (u ∷ []) → Holds (hasTy (R′.mir (named 0)) (mach′ r)) × WT (mach′ r)
+  result-typed are r u is = LL.lawful (R.the-type (α κ)) (R′.the-laws (α κ)) 𝓤 H A W .typed (result r) _
+      (LL.owes (R.the-type (α κ)) (R′.the-laws (α κ)) (result r)
+      (LL.owed N.the-type N′.the-laws r (u ∷ []) is .0, (LL.owes (D κ) (L κ) (d′ r) (moved-facts are r u is), tt))) .0
 
   exits : (r : Moved) → Told r → r .offset < 2 ^ 64 → ent 𝓤 (⋆ 𝓤 H A (‵ (parts r) ∷ (‵ (flft κ q) ⊛ ‵ ftrue) ∷ ‵ (Own κ d) ∷ [])) (Post (mach′ r))
   exits r e fits =
       qed W (‵ (parts r) ∷ (‵ (flft κ q) ⊛ ‵ ftrue) ∷ ‵ (Own κ d) ∷ []) ∵
       suffices ! _ (ends-at 𝓤 H A next.ended stayed (next.clauses 𝓤 H A mem run) W (((κ, tt), (q, tt), tt, (d, tt), (mach ∷ [], tt)), tt) (mach′ r)
       (result r) (tt, tt) (tt, tt)) $
-      says ! (record { answers = e .0; same-text = refl; goes-on = e .1 }) $
+      says ! (record { answers = e .0; same-text = refl; same-profile = refl; goes-on = e .1 }) $
       move ! (1 ∷ []) $ frame ! $ move ! (1 ∷ []) $
-      use1 W (‵ (Own κ d) ⊛ ‵ (Own κ d)) (LL.copy (D κ) (T′.the-copy (namedLft 1 0 tt (κ, tt))) 𝓤 H A W .twice d (mach ∷ [])) $ split ! $
+      use1 W (‵ (Own κ d) ⊛ ‵ (Own κ d)) (LL.copy (D κ) (T′.the-copy (α κ)) 𝓤 H A W .twice d (mach ∷ [])) $ split ! $
       nothing ! $ move ! (1 ∷ 0 ∷ []) $ fjoin ! $ frame ! $
       -- [what the reader owns; what `next_at`'s result owns]: with the new offset the first is what the reader moved owns, and the answer's part of the second goes beside it
       owned ! usize (Is usize) (uint-makes 𝓤 H A W w64) (r .offset) _ (refl, fits) $ move ! (1 ∷ 0 ∷ []) $
-      use2 W (‵ (Own κ (d′ r))) (own-put 𝓤 H A W (D κ) (L κ) 1 (d .text, (d .offset, tt)) (r .offset) mach) $
+      use2 W (‵ (Own κ (d′ r))) (own-put 𝓤 H A W (D κ) (L κ) 1 (values d) (r .offset) mach) $
       move ! (1 ∷ []) $ fsplit ! $ move ! (1 ∷ []) $ drop ! $ nothing ! $ move ! (2 ∷ 0 ∷ []) $ fjoin ! $ move ! (1 ∷ 0 ∷ []) $ fjoin ! $
-      by ! (own-shut 𝓤 H A W (R.the-type (namedLft 1 0 tt (κ, tt))) (R′.the-laws (namedLft 1 0 tt (κ, tt))) (r .lexed, (d′ r, tt)))
+      by ! (own-shut 𝓤 H A W (R.the-type (α κ)) (R′.the-laws (α κ)) (r .lexed, (d′ r, tt)))
 
   module _ (C : Calls 𝓤 H) (Λ : Loops 𝓤 H) (fm : FmC 𝓤 H (W .laws) C) (known : Triple 𝓤 (C #reader·next-at) (NextAt 𝓤 H A mem run)) where
-    walk : Holds (hasTy (T′.mir (named 0)) mach) × WT mach → ent 𝓤 (onEntry 𝓤 H A next.signature (κ, tt) (q, tt) (d, tt) (mach ∷ [], tt))
+    walk : Facts κ d → Holds (hasTy (T′.mir (named 0)) mach) × WT mach → ent 𝓤 (onEntry 𝓤 H A next.signature (κ, tt) (q, tt) (d, tt) (mach ∷ [], tt))
         (WpFn 𝓤 H C Λ code.function (mach ∷ []) Post)
-    walk wt =
+    walk are wt =
         qed W (raw (onEntry 𝓤 H A next.signature (κ, tt) (q, tt) (d, tt) (mach ∷ [], tt)) ∷ []) ∵ enter ! C Λ code.function (mach ∷ []) _ $
-        alloc1 ! (λ l₀. alloc1 ! (λ l₁. alloc1 ! (λ l₂. alloc1 ! (λ l₃. alloc1 ! (λ l₄. alloc1 ! (λ l₅. alloc1 ! (λ l₆. alloc0 ! $ params1 ! $
-        pass1 ! (init ! 10 refl wt) $ pass0 ! $
-        assigns ! (of-opd ! (load ! (from ! (fld ! refl (stop !))) (look-in ! 10 (sub ! 0 refl (whole !))))) (from ! (stop !))
-        (init ! 6 refl (tt, wt .1 .0)) $
-        assigns ! (of-opd ! (load ! (from ! (fld ! refl (stop !))) (look-in ! 10 (sub ! 1 refl (whole !))))) (from ! (stop !))
-        (init ! 4 refl (tt, wt .1 .1 .0)) $
-        move ! (14 ∷ []) $ use1 W (raw (NextAt 𝓤 H A mem run .pre to) ⊛ ‵ (Own κ d)) (apart 𝓤 H A κ q d W (NextAt 𝓤 H A mem run .pre to) asked) $
+        alloc1 ! (λ l₀. alloc1 ! (λ l₁. alloc1 ! (λ l₂. alloc1 ! (λ l₃. alloc1 ! (λ l₄. alloc1 ! (λ l₅. alloc1 ! (λ l₆. alloc1 ! (λ l₇.
+        alloc1 ! (λ l₈. alloc0 ! $ params1 ! $ pass1 ! (init ! 14 refl wt) $ pass0 ! $
+        assigns ! (of-opd ! (load ! (from ! (fld ! refl (stop !))) (look-in ! 14 (sub ! 0 refl (whole !))))) (from ! (stop !))
+        (init ! 10 refl (tt, wt .1 .0)) $
+        assigns ! (of-opd ! (load ! (from ! (fld ! refl (stop !))) (look-in ! 14 (sub ! 1 refl (whole !))))) (from ! (stop !))
+        (init ! 8 refl (tt, wt .1 .1 .0)) $
+        assigns ! (of-opd ! (load ! (from ! (fld ! refl (stop !))) (look-in ! 14 (sub ! 2 refl (whole !))))) (from ! (stop !))
+        (init ! 6 refl (profile-typed (d .profile))) $
+        move ! (18 ∷ []) $ use1 W (raw (NextAt 𝓤 H A mem run .pre to) ⊛ ‵ (Own κ d)) (apart 𝓤 H A κ q d W (NextAt 𝓤 H A mem run .pre to) asked) $
         split ! $
         calls-at ! fm (NextAt 𝓤 H A mem run) known to
-        (and-then ! (load ! (from ! (stop !)) (look ! 8 refl)) (and-then ! (load ! (from ! (stop !)) (look ! 6 refl)) (no-more !))) (λ u.
+        (and-then ! (load ! (from ! (stop !)) (look ! 12 refl)) (and-then ! (load ! (from ! (stop !)) (look ! 10 refl))
+        (and-then ! (load ! (from ! (stop !)) (look ! 8 refl)) (no-more !)))) (λ u.
         use1 W (later (some (λ (r : Moved). ((‵ (flft κ q) ⊛ ‵ ftrue) ⊛ ‵ (N.the-row .own r (u ∷ []))) ⊛ raw
-        (ensured 𝓤 H A next-at.ended (next-at.clauses 𝓤 H A mem run) (κ, tt) (d .text, (d .offset, tt)) tt r)))) (id⊢ 𝓤 _) $ await ! tt $
+        (ensured 𝓤 H A next-at.ended (next-at.clauses 𝓤 H A mem run) (κ, tt) (values d) tt r)))) (id⊢ 𝓤 _) $ await ! tt $
         pick ! (λ r.
         split ! $ move ! (1 ∷ []) $ use1 W (raw (fact 𝓤 (Told r))) (said r) $ heard ! (Told r) (λ e. split ! $ move ! (1 ∷ []) $
-        -- [what the result of `next_at` owns; the token; what the reader owns; room for _6; …; room for _5; …; _4; …; _3; …; room for _2; …; _1; …; room for _0; …]
+        -- [what the result of `next_at` owns; the token; what the reader owns; room for _8; …; room for _7; …; room for _6; …; _5; …; _4; …;
+        --  _3; …; room for _2; …; _1; …; room for _0; …]
         peeks ! N.the-row (Is N.the-row) (shows 𝓤 H A N.the-row) r (u ∷ []) (λ is.
-        land ! (from ! (stop !)) (init ! 11 refl (LL.lawful N.the-type N′.the-laws 𝓤 H A W .typed r _ is .0)) $
+        land ! (from ! (stop !)) (init ! 15 refl (LL.lawful N.the-type N′.the-laws 𝓤 H A W .typed r _ is .0)) $
         use1 W (given (u ∷ [] ≡ low r ∷ []) (‵ (parts r))) (own-open 𝓤 H A W N.the-type N′.the-laws (r .lexed, (r .offset, tt)) u) $
         learn ! (λ spelled.
-        rewrite ! 11 (λ (us : List Val). ‵ (fat fullShare N′.mir l₂ 0 (only us))) spelled refl $
-        assigns ! (of-opd ! (load ! (from ! (fld ! refl (stop !))) (look-in ! 13 (sub ! 0 refl (whole !))))) (from ! (stop !))
-        (init ! 5 refl (tt, wt .1 .0)) $
-        assigns ! (agg ! (and-then ! (load ! (from ! (stop !)) (look ! 5 refl))
-        (and-then ! (load ! (from ! (fld ! refl (stop !))) (look-in ! 11 (sub ! 1 refl (whole !)))) (no-more !)))) (from ! (stop !))
-        (init ! 3 refl (tt, (wt .1 .0, (low-typed r u is spelled .1 .1 .0, tt)))) $
-        assigns ! (agg ! (and-then ! (load ! (from ! (fld ! refl (stop !))) (look-in ! 11 (sub ! 0 refl (whole !))))
-        (and-then ! (load ! (from ! (stop !)) (look ! 3 refl)) (no-more !)))) (from ! (stop !))
-        (init ! 15 refl
-        (low-typed r u is spelled .0, (low-typed r u is spelled .1 .0, ((wt .1 .0, (low-typed r u is spelled .1 .1 .0, tt)), tt)))) $
-        returns ! (look ! 15 refl) $ forget ! 3 refl $ forget ! 5 refl $ forget ! 7 refl $ forget ! 9 refl $ forget ! 11 refl $ forget ! 13 refl $
-        forget ! 15 refl $
-        move ! (15 ∷ 16 ∷ []) $ free1 ! $ move ! (13 ∷ 14 ∷ []) $ free1 ! $ move ! (11 ∷ 12 ∷ []) $ free1 ! $ move ! (9 ∷ 10 ∷ []) $ free1 ! $
-        move ! (7 ∷ 8 ∷ []) $ free1 ! $ move ! (5 ∷ 6 ∷ []) $ free1 ! $ move ! (3 ∷ 4 ∷ []) $ free1 ! $ free0 ! $
-        by ! (exits r e (low-typed r u is spelled .1 .1 .0 .fits))))))))))))))
+        rewrite ! 15 (λ (us : List Val). ‵ (fat fullShare N′.mir l₂ 0 (only us))) spelled refl $
+        assigns ! (of-opd ! (load ! (from ! (fld ! refl (stop !))) (look-in ! 17 (sub ! 0 refl (whole !))))) (from ! (stop !))
+        (init ! 7 refl (tt, wt .1 .0)) $
+        assigns ! (of-opd ! (load ! (from ! (fld ! refl (stop !))) (look-in ! 17 (sub ! 2 refl (whole !))))) (from ! (stop !))
+        (init ! 5 refl (profile-typed (d .profile))) $
+        assigns ! (agg ! (and-then ! (load ! (from ! (stop !)) (look ! 7 refl))
+        (and-then ! (load ! (from ! (fld ! refl (stop !))) (look-in ! 15 (sub ! 1 refl (whole !))))
+        (and-then ! (load ! (from ! (stop !)) (look ! 5 refl)) (no-more !))))) (from ! (stop !))
+        (init ! 3 refl (typed 𝓤 H A W (αᵉ κ) (d′ r) (moved-facts are r u is))) $
+        assigns ! (agg ! (and-then ! (load ! (from ! (fld ! refl (stop !))) (look-in ! 15 (sub ! 0 refl (whole !))))
+        (and-then ! (load ! (from ! (stop !)) (look ! 3 refl)) (no-more !)))) (from ! (stop !)) (init ! 19 refl (result-typed are r u is)) $
+        returns ! (look ! 19 refl) $ forget ! 3 refl $ forget ! 5 refl $ forget ! 7 refl $ forget ! 9 refl $ forget ! 11 refl $ forget ! 13 refl $
+        forget ! 15 refl $ forget ! 17 refl $ forget ! 19 refl $
+        move ! (19 ∷ 20 ∷ []) $ free1 ! $ move ! (17 ∷ 18 ∷ []) $ free1 ! $ move ! (15 ∷ 16 ∷ []) $ free1 ! $ move ! (13 ∷ 14 ∷ []) $ free1 ! $
+        move ! (11 ∷ 12 ∷ []) $ free1 ! $ move ! (9 ∷ 10 ∷ []) $ free1 ! $ move ! (7 ∷ 8 ∷ []) $ free1 ! $ move ! (5 ∷ 6 ∷ []) $ free1 ! $
+        move ! (3 ∷ 4 ∷ []) $ free1 ! $ free0 ! $
+        by ! (exits r e (moved-facts are r u is .1 .0 .1))))))))))))))))
 
 module _ {M : Type 1} (𝓤 : URA M) (H : Heap 𝓤) (A : Atoms 𝓤) (W : Given 𝓤 H A) (mem : Memory → SProp 𝓤) (run : Routine → Fun 𝓤) where
   next-walks : (C : Calls 𝓤 H) (Λ : Loops 𝓤 H) → FmC 𝓤 H (W .laws) C → Triple 𝓤 (C #reader·next-at) (NextAt 𝓤 H A mem run)
@@ -175,7 +183,8 @@ module _ {M : Type 1} (𝓤 : URA M) (H : Heap 𝓤) (A : Atoms 𝓤) (W : Given
   next-walks C Λ fm known = walked 𝓤 H A next.ended stayed (next.clauses 𝓤 H A mem run) (WpFn 𝓤 H C Λ code.function)
       (λ κs. (LL.vals (D (κs .0)) (L (κs .0)), tt)) (λ κs. (LL.tells (D (κs .0)) (L (κs .0)), tt))
       (λ κs qs bounds a g are. via 𝓤 _ (fst∗ 𝓤 _ (emp 𝓤))
-      (walk 𝓤 H A W mem run (κs .0) (qs .0) (a .0) C Λ fm known (LL.lawful (D (κs .0)) (L (κs .0)) 𝓤 H A W .typed (a .0) _ (are .0) .0)))
+      (walk 𝓤 H A W mem run (κs .0) (qs .0) (a .0) C Λ fm known (LL.owed (D (κs .0)) (L (κs .0)) (a .0) _ (are .0))
+      (LL.lawful (D (κs .0)) (L (κs .0)) 𝓤 H A W .typed (a .0) _ (are .0) .0)))
 
 next-meets : {M : Type 1} (𝓤 : URA M) (H : Heap 𝓤) (A : Atoms 𝓤) (W : Given 𝓤 H A) (mem : Memory → SProp 𝓤) (run : Routine → Fun 𝓤) (𝓣 : Tables 𝓤 H)
     → Triple 𝓤 (𝓣 .C #reader·next-at) (NextAt 𝓤 H A mem run)
