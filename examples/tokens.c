@@ -1,12 +1,14 @@
 /*
  * Prints the tokens of a text as the program sqllex does: a line for each with its kind, start and length, then how it ended.
- * tokens [FILE] reads FILE, or standard input. It keeps the text and one short list in static memory; the library uses no heap.
+ * tokens [sqlite] [FILE] reads FILE, or standard input; with `sqlite` it lexes under the profile nearer SQLite, which sqllex does not
+ * have. It keeps the text and one short list in static memory; the library uses no heap.
  *
  *     rt staticlib capi
  *     cc -Iinclude -o tokens examples/tokens.c target/staticlib/libcapi.a
  */
 #include <inttypes.h>
 #include <stdio.h>
+#include <string.h>
 
 #include "sqllex.h"
 
@@ -30,14 +32,17 @@ static void print_records(size_t records)
     }
 }
 
-/* A full list is printed, and filled again from where it ended. */
-static void print_tokens(size_t text_length)
+/*
+ * A full list is printed, and filled again from where it ended. The profile is one of the two that there are: no status
+ * SQLLEX_UNKNOWN_PROFILE comes.
+ */
+static void print_tokens(size_t text_length, uint32_t profile)
 {
     sqllex_answer answer = {0, 0, 0, 0, 0, 0};
     size_t tokens = 0;
     uint32_t status;
     do {
-        status = sqllex_list_from(text, text_length, answer.next, list, sizeof list / sizeof *list, &answer);
+        status = sqllex_list_from(text, text_length, answer.next, profile, list, sizeof list / sizeof *list, &answer);
         print_records(answer.value);
         tokens += answer.value;
     } while (status == SQLLEX_LIST_FULL);
@@ -49,12 +54,14 @@ static void print_tokens(size_t text_length)
 
 int main(int argc, char **argv)
 {
-    FILE *in = argc > 1 ? fopen(argv[1], "rb") : stdin;
+    bool sqlite = argc > 1 && strcmp(argv[1], "sqlite") == 0;
+    int file = sqlite ? 2 : 1;
+    FILE *in = argc > file ? fopen(argv[file], "rb") : stdin;
     size_t text_length = in != NULL ? fread(text, 1, sizeof text, in) : 0;
     if (in == NULL || ferror(in)) {
         perror("tokens");
         return 2;
     }
-    print_tokens(text_length);
+    print_tokens(text_length, sqlite ? SQLLEX_SQLITE : SQLLEX_TURSO);
     return 0;
 }

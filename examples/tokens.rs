@@ -1,9 +1,9 @@
 //! Prints the tokens of a text as the program sqllex does: a line for each with its kind, start and length, then how it ended.
-//! tokens [FILE] reads FILE, or standard input.
+//! tokens [sqlite] [FILE] reads FILE, or standard input; with `sqlite` it lexes under the profile nearer SQLite, which sqllex does not have.
 //!
 //!     rt staticlib capi
 //!     rustc --edition 2021 -O -L target/staticlib -o tokens examples/tokens.rs
-use sqllex::Lexed;
+use sqllex::{Lexed, Profile};
 use std::fs::File;
 use std::io::{self, BufWriter, Read, Write};
 
@@ -22,10 +22,17 @@ mod sqllex {
 
     #[link(name = "capi", kind = "static")]
     extern "C" {
-        fn sqllex_next(text: *const u8, text_length: usize, offset: usize, answer: *mut Answer) -> u32;
+        fn sqllex_next(text: *const u8, text_length: usize, offset: usize, profile: u32, answer: *mut Answer) -> u32;
     }
 
     pub const LONGEST: usize = 65535;
+
+    /// The profiles that there are, with their numbers: so no status SQLLEX_UNKNOWN_PROFILE comes.
+    #[derive(Clone, Copy)]
+    pub enum Profile {
+        Turso = 0,
+        Sqlite = 1,
+    }
 
     pub enum Lexed {
         Token { kind: usize, start: usize, length: usize, next: usize },
@@ -34,10 +41,10 @@ mod sqllex {
     }
 
     /// The lexeme at an offset of a text.
-    pub fn next(text: &[u8], offset: usize) -> Lexed {
+    pub fn next(text: &[u8], offset: usize, profile: Profile) -> Lexed {
         let mut answer = Answer::default();
         // SAFETY: a slice has all its bytes, which stay as they are while it is lent; the answer is this function's own.
-        let status = unsafe { sqllex_next(text.as_ptr(), text.len(), offset, &mut answer) };
+        let status = unsafe { sqllex_next(text.as_ptr(), text.len(), offset, profile as u32, &mut answer) };
         let Answer { value, start, length, next, .. } = answer;
         match status {
             0 => Lexed::End { next },
@@ -60,7 +67,7 @@ mod sqllex {
     }
 }
 
-fn print_tokens(text: &[u8], out: &mut impl Write) -> io::Result<()> {
+fn print_tokens(text: &[u8], profile: Profile, out: &mut impl Write) -> io::Result<()> {
     if text.len() > sqllex::LONGEST {
         return writeln!(out, "TooLong\t0\t0\t0");
     }
@@ -68,7 +75,7 @@ fn print_tokens(text: &[u8], out: &mut impl Write) -> io::Result<()> {
     let mut offset = 0;
     let mut tokens = 0;
     loop {
-        match sqllex::next(text, offset) {
+        match sqllex::next(text, offset, profile) {
             Lexed::Token { kind, start, length, next } => {
                 writeln!(out, "{}\t{start}\t{length}", names[kind])?;
                 tokens += 1;
@@ -81,7 +88,12 @@ fn print_tokens(text: &[u8], out: &mut impl Write) -> io::Result<()> {
 }
 
 fn main() -> io::Result<()> {
-    let input: Box<dyn Read> = match std::env::args_os().nth(1) {
+    let mut words = std::env::args_os().skip(1).peekable();
+    let profile = match words.next_if(|word| word == "sqlite") {
+        Some(_) => Profile::Sqlite,
+        None => Profile::Turso,
+    };
+    let input: Box<dyn Read> = match words.next() {
         Some(path) => Box::new(File::open(path)?),
         None => Box::new(io::stdin()),
     };
@@ -89,6 +101,6 @@ fn main() -> io::Result<()> {
     let mut text = Vec::new();
     input.take(sqllex::LONGEST as u64 + 1).read_to_end(&mut text)?;
     let mut out = BufWriter::new(io::stdout().lock());
-    print_tokens(&text, &mut out)?;
+    print_tokens(&text, profile, &mut out)?;
     out.flush()
 }

@@ -16,6 +16,7 @@
  * - A list is aligned as uint32_t is, and an answer as size_t is; an answer is never null. Neither needs values beforehand.
  * - Text, list and answer of one call do not overlap, and nobody else writes to them while it runs: no thread, interrupt or DMA.
  * - An offset may be any number. One past the end is refused and reads nothing.
+ * - A profile may be any number. With one that is neither of the two below nothing is read or written.
  */
 #ifndef SQLLEX_H
 #define SQLLEX_H
@@ -27,9 +28,10 @@
 #endif
 
 /*
- * What a call says beside its status. A call writes all six, whatever the status. `start` and `length` are a span of the text in
- * bytes; places count from the text's first byte, wherever lexing began. `next` is the offset to go on from after a find or a full
- * list; after a refusal see each call. `digits` and `underscores` are those of a number that sqllex_next finds; else both are 0.
+ * What a call says beside its status. With SQLLEX_UNKNOWN_PROFILE a call writes none of the six, with any other status all. `start`
+ * and `length` are a span of the text in bytes; places count from the text's first byte, wherever lexing began. `next` is the offset
+ * to go on from after a find or a full list; after a refusal see each call. `digits` and `underscores` are those of a number that
+ * sqllex_next finds; else both are 0.
  */
 typedef struct sqllex_answer {
     size_t value; /* the kind (next), the number of records (list_from), whether tokens came (cut) */
@@ -46,7 +48,24 @@ static_assert(sizeof(sqllex_answer) == 48, "the library's answers are six words 
 _Static_assert(sizeof(sqllex_answer) == 48, "the library's answers are six words of 8 bytes");
 #endif
 
-/* Statuses: 0, nothing is left; 1 to 99, a refusal; from 100 on, a find. */
+/*
+ * Profiles: whose SQL is lexed. Each call that lexes takes one. SQLLEX_TURSO lexes as turso_parser does; SQLLEX_SQLITE is nearer
+ * SQLite, and differs in this alone:
+ * - `[` up to the first `]` is a name: one token of kind SQLLEX_TK_ID. Without a `]` it is refused, to the text's end, as
+ *   SQLLEX_UNTERMINATED_LITERAL.
+ * - `:` begins a parameter as `@` does: `:2` is one, and a `:` without a name is refused as SQLLEX_UNRECOGNIZED_TOKEN.
+ * - `&&` is two tokens of kind SQLLEX_TK_BITAND.
+ * - `@>` begins with an `@` without a name, and is refused as SQLLEX_UNRECOGNIZED_TOKEN.
+ * - `_` directly behind the `e` of an exponent or behind its sign counts as no digit: `1e_5` is refused as SQLLEX_BAD_EXPONENT_PART.
+ * Under it no token is of kind SQLLEX_TK_LBRACKET, SQLLEX_TK_COLON, SQLLEX_TK_ARRAY_OVERLAP or SQLLEX_TK_ARRAY_CONTAINS. What the
+ * comments of the calls say holds under both.
+ *
+ * With any other number a call has the status SQLLEX_UNKNOWN_PROFILE, whatever its other arguments, and writes nothing.
+ */
+#define SQLLEX_TURSO 0u
+#define SQLLEX_SQLITE 1u
+
+/* Statuses: 0, nothing is left; 1 to 99, a refusal, 99 that of a number that is no profile's; from 100 on, a find. */
 #define SQLLEX_END 0u
 #define SQLLEX_UNRECOGNIZED_TOKEN 1u
 #define SQLLEX_UNTERMINATED_LITERAL 2u
@@ -58,6 +77,7 @@ _Static_assert(sizeof(sqllex_answer) == 48, "the library's answers are six words
 #define SQLLEX_OFFSET_PAST_END 8u
 #define SQLLEX_TOO_LONG 9u
 #define SQLLEX_LIST_FULL 10u
+#define SQLLEX_UNKNOWN_PROFILE 99u
 #define SQLLEX_TOKEN 100u
 #define SQLLEX_CUT 101u
 #define SQLLEX_OPEN 102u
@@ -301,16 +321,17 @@ extern "C" {
  *     SQLLEX_END               0      text_length  0            text_length
  *     1 to 7                   0      of the span  of the span  offset, or start + length
  *     SQLLEX_OFFSET_PAST_END   0      0            0            offset
+ *     SQLLEX_UNKNOWN_PROFILE   nothing is written
  *
  * A token of kind SQLLEX_TK_INTEGER or SQLLEX_TK_FLOAT has at least one digit. Of a hexadecimal integer the digits behind `0x` count,
  * of any other number all its decimal digits, and of each its underscores: `1.5e+1_0` has 4 and 1, `0x1_F` 2 and 1. Neither is ever
- * more than 4294967295, which stands for that many or more. Other tokens have 0 and 0, and so has every other status.
+ * more than 4294967295, which stands for that many or more. Other tokens have 0 and 0, and so has every other answer.
  *
  * After a refusal of 1 to 7 `next` is the offset given, so that a call there refuses again; to go on behind the refused bytes, call
  * at start + length, which is greater than the offset. Only where the first byte begins no lexeme at all, as `{` does, is `next`
  * itself start + length; the status is then SQLLEX_UNRECOGNIZED_TOKEN. Past the end there is nothing to go on with.
  */
-uint32_t sqllex_next(const uint8_t *text, size_t text_length, size_t offset, sqllex_answer *answer);
+uint32_t sqllex_next(const uint8_t *text, size_t text_length, size_t offset, uint32_t profile, sqllex_answer *answer);
 
 /*
  * The tokens of a text from an offset on, each as a record in a list: kind, start, length. The list has whole records only, the
@@ -322,23 +343,25 @@ uint32_t sqllex_next(const uint8_t *text, size_t text_length, size_t offset, sql
  *     SQLLEX_OFFSET_PAST_END   0        0            0            offset
  *     SQLLEX_TOO_LONG          0        0            0            offset
  *     SQLLEX_LIST_FULL         records  next         0            of the token that has no place
+ *     SQLLEX_UNKNOWN_PROFILE   nothing is written
  *
- * SQLLEX_TOO_LONG, for a text of more than SQLLEX_LONGEST_TEXT bytes, comes before any other. SQLLEX_LIST_FULL comes only where a token
- * is left and fewer than three numbers are: take the records out, and call again from `next` with the same list. (A list of
- * fewer than three numbers takes no token: with it this would not end.)
+ * SQLLEX_TOO_LONG, for a text of more than SQLLEX_LONGEST_TEXT bytes, comes before any other but SQLLEX_UNKNOWN_PROFILE.
+ * SQLLEX_LIST_FULL comes only where a token is left and fewer than three numbers are: take the records out, and call again from
+ * `next` with the same list and profile. (A list of fewer than three numbers takes no token: with it this would not end.)
  */
-uint32_t sqllex_list_from(const uint8_t *text, size_t text_length, size_t offset, uint32_t *list, size_t list_length,
-                          sqllex_answer *answer);
+uint32_t sqllex_list_from(const uint8_t *text, size_t text_length, size_t offset, uint32_t profile, uint32_t *list,
+                          size_t list_length, sqllex_answer *answer);
 
 /*
  * The tokens of a text from its beginning on, as sqllex_list_from writes them. Returns the number of records, and does not say
- * whether they are all: fewer where a lexeme is refused or the list is full, 0 for a text that is too long.
+ * whether they are all: fewer where a lexeme is refused or the list is full, 0 for a text that is too long and for a number that is
+ * no profile's.
  */
-uint64_t sqllex_list(const uint8_t *text, size_t text_length, uint32_t *list, size_t list_length);
+uint64_t sqllex_list(const uint8_t *text, size_t text_length, uint32_t profile, uint32_t *list, size_t list_length);
 
 /*
  * The statement from an offset on, up to and with its semicolon. Only a semicolon that is a token counts, none inside a string, a
- * quoted name, a comment or a parameter's `(..)`.
+ * quoted name (under SQLLEX_SQLITE also one in brackets), a comment or a parameter's `(..)`.
  *
  *     status                   value   start        length        next
  *     SQLLEX_CUT               0 or 1  offset       to behind ;   start + length
@@ -346,14 +369,18 @@ uint64_t sqllex_list(const uint8_t *text, size_t text_length, uint32_t *list, si
  *     SQLLEX_END               0       text_length  0             text_length
  *     1 to 7                   0       of the span  of the span   offset
  *     SQLLEX_OFFSET_PAST_END   0       0            0             offset
+ *     SQLLEX_UNKNOWN_PROFILE   nothing is written
  *
  * `value` is 1 where a token that is no SQLLEX_TK_NONE came before the semicolon, or before the end where there is no semicolon.
  * SQLLEX_OPEN: such a token came, and no semicolon. SQLLEX_END: neither came. A refusal is that of the first lexeme which
  * sqllex_next refuses before a semicolon.
  */
-uint32_t sqllex_cut(const uint8_t *text, size_t text_length, size_t offset, sqllex_answer *answer);
+uint32_t sqllex_cut(const uint8_t *text, size_t text_length, size_t offset, uint32_t profile, sqllex_answer *answer);
 
-/* The kind of a word: its keyword's, ASCII letters in capitals or not; SQLLEX_TK_ID for any other bytes, and for none. */
+/*
+ * The kind of a word, under either profile: its keyword's, ASCII letters in capitals or not; SQLLEX_TK_ID for any other bytes, and
+ * for none.
+ */
 uint32_t sqllex_word_kind(const uint8_t *word, size_t word_length);
 
 /* Whether the word is a keyword other than TYPE, ASCII letters in capitals or not. */

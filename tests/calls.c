@@ -1,9 +1,10 @@
 /*
  * calls.c: every call of include/sqllex.h, with each text, list and answer beside a page that cannot be touched. tests/library runs it.
  *
- * calls PLACE next|sums|list N|cut|word  reads records as sqlbatch does, and prints what sqlbatch prints of them
- * calls PLACE replay                     prints what the program replay prints of them
- * calls PLACE edges                      tries the calls that stand below with their answers
+ * calls PLACE next|sums|list N|cut [turso|sqlite]  reads records as sqlbatch does, and prints what sqlbatch prints of them
+ * calls PLACE word                                 the same, of records that are words
+ * calls PLACE replay                               prints what the program replay prints of them
+ * calls PLACE edges                                tries the calls that stand below with their answers
  *
  * PLACE, front or back, says where a text, list or answer lies in its room between two such pages: at its beginning or at its end.
  * In every mode what a call must leave alone is seen to be as it was: the bytes beside the answer and the list, the list's numbers
@@ -66,7 +67,8 @@ static unsigned char *place(struct room room, size_t size)
     return at_back ? room.bytes + (room.size - size) : room.bytes;
 }
 
-/* The text of the calls that follow. */
+/* The profile and the text of the calls that follow. */
+static uint32_t profile = SQLLEX_TURSO;
 static const uint8_t *text;
 static size_t text_length;
 
@@ -95,11 +97,17 @@ static void look_beside(const void *there, size_t size, const char *what)
         require(byte[i] == OLD_BYTE, what);
 }
 
+/* Where a place in a room begins, with what lies beside it. */
+static unsigned char *first_of(void *there)
+{
+    return (unsigned char *)there - (at_back ? BESIDE : 0);
+}
+
 /* Of `size` bytes in a room; they and those beside them are set, so that it is seen which of them a call writes. */
 static void *unset(struct room room, size_t size)
 {
     unsigned char *there = place(room, size);
-    memset(at_back ? there - BESIDE : there, OLD_BYTE, size + BESIDE);
+    memset(first_of(there), OLD_BYTE, size + BESIDE);
     return there;
 }
 
@@ -117,7 +125,7 @@ static sqllex_answer written(const sqllex_answer *answer)
 static uint32_t call_next(size_t offset, sqllex_answer *said)
 {
     sqllex_answer *answer = unset_answer();
-    uint32_t status = sqllex_next(text, text_length, offset, answer);
+    uint32_t status = sqllex_next(text, text_length, offset, profile, answer);
     *said = written(answer);
     return status;
 }
@@ -125,7 +133,7 @@ static uint32_t call_next(size_t offset, sqllex_answer *said)
 static uint32_t call_cut(size_t offset, sqllex_answer *said)
 {
     sqllex_answer *answer = unset_answer();
-    uint32_t status = sqllex_cut(text, text_length, offset, answer);
+    uint32_t status = sqllex_cut(text, text_length, offset, profile, answer);
     *said = written(answer);
     return status;
 }
@@ -139,13 +147,13 @@ static uint32_t call_list(size_t offset, size_t length, uint32_t **list, sqllex_
     uint64_t records = 0;
     if (offset == 0) {
         *list = unset(list_room, size);
-        records = sqllex_list(text, text_length, *list, length);
+        records = sqllex_list(text, text_length, profile, *list, length);
         look_beside(*list, size, beside_list);
         memcpy(first, *list, size);
     }
     *list = unset(list_room, size);
     sqllex_answer *answer = unset_answer();
-    uint32_t status = sqllex_list_from(text, text_length, offset, *list, length, answer);
+    uint32_t status = sqllex_list_from(text, text_length, offset, profile, *list, length, answer);
     *said = written(answer);
     look_beside(*list, size, beside_list);
     if (offset == 0) {
@@ -194,6 +202,12 @@ static void print_token(const sqllex_answer *answer, bool sums)
     printf("\n");
 }
 
+/* Kinds that the profile sqlite never gives. */
+static bool is_of_turso(size_t kind)
+{
+    return kind == SQLLEX_TK_LBRACKET || kind == SQLLEX_TK_COLON || kind == SQLLEX_TK_ARRAY_OVERLAP || kind == SQLLEX_TK_ARRAY_CONTAINS;
+}
+
 static size_t print_walk(size_t offset, bool sums)
 {
     sqllex_answer answer;
@@ -201,6 +215,7 @@ static size_t print_walk(size_t offset, bool sums)
     uint32_t status;
     while ((status = call_next(offset, &answer)) == SQLLEX_TOKEN) {
         require(answer.value < SQLLEX_KINDS_COUNT, "a kind that is none");
+        require(profile == SQLLEX_TURSO || !is_of_turso(answer.value), "a kind that the profile has not");
         require(answer.start == offset && answer.next == offset + answer.length, "a token that lies elsewhere");
         require(answer.length > 0, "a token of no byte");
         print_token(&answer, sums);
@@ -335,6 +350,10 @@ static uint32_t *list;
 #define CUT(offset, ...) expect(__LINE__, call_cut(offset, &said), &said, __VA_ARGS__)
 #define LIST(offset, length, ...) expect(__LINE__, call_list(offset, length, &list, &said), &said, __VA_ARGS__)
 
+/* The list of the last LIST is these records; what is behind them LIST has looked at. */
+#define RECORDS(...) \
+    require(memcmp(list, (const uint32_t[]){__VA_ARGS__}, sizeof((const uint32_t[]){__VA_ARGS__})) == 0, "another list: " #__VA_ARGS__)
+
 static void try_next(void)
 {
     TEXT("");
@@ -367,8 +386,8 @@ static void try_next(void)
 
 static void try_numbers(void)
 {
-    TEXT("1e_5 0x1_F 1.5e+1_0 5. ?12 0X0 .0_0 0");
-    NUMBER(0, SQLLEX_TK_FLOAT, 0, 4, 4, 2, 1);
+    TEXT("1e5_ 0x1_F 1.5e+1_0 5. ?12 0X0 .0_0 0");
+    NEXT(0, SQLLEX_BAD_NUMBER, 0, 2, 2, 0);
     NUMBER(5, SQLLEX_TK_INTEGER, 5, 5, 10, 2, 1);
     NUMBER(11, SQLLEX_TK_FLOAT, 11, 8, 19, 4, 1);
     NUMBER(20, SQLLEX_TK_FLOAT, 20, 2, 22, 1, 0);
@@ -471,52 +490,249 @@ static void try_null(void)
     NEXT(1, SQLLEX_OFFSET_PAST_END, 0, 0, 0, 1);
     CUT(0, SQLLEX_END, 0, 0, 0, 0);
     sqllex_answer *answer = unset_answer();
-    require(sqllex_list_from(NULL, 0, 0, NULL, 0, answer) == SQLLEX_END && written(answer).value == 0, "a list of nothing");
-    require(sqllex_list(NULL, 0, NULL, 0) == 0, "records of nothing");
+    require(sqllex_list_from(NULL, 0, 0, profile, NULL, 0, answer) == SQLLEX_END && written(answer).value == 0, "a list of nothing");
+    require(sqllex_list(NULL, 0, profile, NULL, 0) == 0, "records of nothing");
     TEXT("a");
-    require(sqllex_list_from(text, text_length, 0, NULL, 0, answer) == SQLLEX_LIST_FULL, "a record in no list");
-    require(sqllex_list(text, text_length, NULL, 0) == 0, "a record in no list");
+    require(sqllex_list_from(text, text_length, 0, profile, NULL, 0, answer) == SQLLEX_LIST_FULL, "a record in no list");
+    require(sqllex_list(text, text_length, profile, NULL, 0) == 0, "a record in no list");
     require(sqllex_word_kind(NULL, 0) == SQLLEX_TK_ID && !sqllex_is_quotable_keyword(NULL, 0), "a kind of no word");
 }
 
-static void try_edges(void)
+/* A statement that both profiles lex alike. */
+static void try_statement(void)
 {
+    TEXT("SELECT 1;");
+    NEXT(0, SQLLEX_TOKEN, SQLLEX_TK_SELECT, 0, 6, 6);
+    NUMBER(7, SQLLEX_TK_INTEGER, 7, 1, 8, 1, 0);
+    LIST(0, 15, SQLLEX_END, 4, 9, 0, 9);
+    RECORDS(SQLLEX_TK_SELECT, 0, 6, SQLLEX_TK_NONE, 6, 1, SQLLEX_TK_INTEGER, 7, 1, SQLLEX_TK_SEMI, 8, 1);
+    CUT(0, SQLLEX_CUT, 1, 0, 9, 9);
+}
+
+/*
+ * What the two profiles read otherwise, by every call. To the cut one token is as good as another, so it is asked where a semicolon is a
+ * token, or a lexeme refused, under one profile alone; `&&` is the same to it under both.
+ */
+static void try_turso(void)
+{
+    TEXT(":2");
+    NEXT(0, SQLLEX_TOKEN, SQLLEX_TK_COLON, 0, 1, 1);
+    LIST(0, 10, SQLLEX_END, 2, 2, 0, 2);
+    RECORDS(SQLLEX_TK_COLON, 0, 1, SQLLEX_TK_INTEGER, 1, 1);
+    TEXT(":2(;)");
+    CUT(0, SQLLEX_CUT, 1, 0, 4, 4);
+    TEXT(":");
+    CUT(0, SQLLEX_OPEN, 1, 0, 1, 1);
+    TEXT("[a]");
+    NEXT(0, SQLLEX_TOKEN, SQLLEX_TK_LBRACKET, 0, 1, 1);
+    LIST(0, 10, SQLLEX_END, 3, 3, 0, 3);
+    RECORDS(SQLLEX_TK_LBRACKET, 0, 1, SQLLEX_TK_ID, 1, 1, SQLLEX_TK_RBRACKET, 2, 1);
+    TEXT("[;]");
+    CUT(0, SQLLEX_CUT, 1, 0, 2, 2);
+    TEXT("&&");
+    NEXT(0, SQLLEX_TOKEN, SQLLEX_TK_ARRAY_OVERLAP, 0, 2, 2);
+    LIST(0, 10, SQLLEX_END, 1, 2, 0, 2);
+    RECORDS(SQLLEX_TK_ARRAY_OVERLAP, 0, 2);
+    CUT(0, SQLLEX_OPEN, 1, 0, 2, 2);
+    TEXT("@>");
+    NEXT(0, SQLLEX_TOKEN, SQLLEX_TK_ARRAY_CONTAINS, 0, 2, 2);
+    LIST(0, 10, SQLLEX_END, 1, 2, 0, 2);
+    RECORDS(SQLLEX_TK_ARRAY_CONTAINS, 0, 2);
+    CUT(0, SQLLEX_OPEN, 1, 0, 2, 2);
+    TEXT("1e_5");
+    NUMBER(0, SQLLEX_TK_FLOAT, 0, 4, 4, 2, 1);
+    LIST(0, 10, SQLLEX_END, 1, 4, 0, 4);
+    RECORDS(SQLLEX_TK_FLOAT, 0, 4);
+    CUT(0, SQLLEX_OPEN, 1, 0, 4, 4);
+}
+
+static void try_sqlite(void)
+{
+    TEXT(":2");
+    NEXT(0, SQLLEX_TOKEN, SQLLEX_TK_VARIABLE, 0, 2, 2);
+    LIST(0, 10, SQLLEX_END, 1, 2, 0, 2);
+    RECORDS(SQLLEX_TK_VARIABLE, 0, 2);
+    TEXT(":2(;)");
+    CUT(0, SQLLEX_OPEN, 1, 0, 5, 5);
+    TEXT(":");
+    CUT(0, SQLLEX_UNRECOGNIZED_TOKEN, 0, 0, 1, 0);
+    TEXT("[a]");
+    NEXT(0, SQLLEX_TOKEN, SQLLEX_TK_ID, 0, 3, 3);
+    LIST(0, 10, SQLLEX_END, 1, 3, 0, 3);
+    RECORDS(SQLLEX_TK_ID, 0, 3);
+    TEXT("[;]");
+    CUT(0, SQLLEX_OPEN, 1, 0, 3, 3);
+    TEXT("&&");
+    NEXT(0, SQLLEX_TOKEN, SQLLEX_TK_BITAND, 0, 1, 1);
+    LIST(0, 10, SQLLEX_END, 2, 2, 0, 2);
+    RECORDS(SQLLEX_TK_BITAND, 0, 1, SQLLEX_TK_BITAND, 1, 1);
+    CUT(0, SQLLEX_OPEN, 1, 0, 2, 2);
+    TEXT("@>");
+    NEXT(0, SQLLEX_UNRECOGNIZED_TOKEN, 0, 0, 1, 0);
+    LIST(0, 10, SQLLEX_UNRECOGNIZED_TOKEN, 0, 0, 1, 0);
+    CUT(0, SQLLEX_UNRECOGNIZED_TOKEN, 0, 0, 1, 0);
+    TEXT("1e_5");
+    NEXT(0, SQLLEX_BAD_EXPONENT_PART, 0, 1, 1, 0);
+    LIST(0, 10, SQLLEX_BAD_EXPONENT_PART, 0, 1, 1, 0);
+    CUT(0, SQLLEX_BAD_EXPONENT_PART, 0, 1, 1, 0);
+    TEXT("a [b");
+    NEXT(2, SQLLEX_UNTERMINATED_LITERAL, 0, 2, 2, 2);
+    LIST(0, 10, SQLLEX_UNTERMINATED_LITERAL, 2, 2, 2, 2);
+    CUT(0, SQLLEX_UNTERMINATED_LITERAL, 0, 2, 2, 0);
+}
+
+/* The bytes of an answer or list that is lent under a number that is no profile's: other ones than a call could write by chance. */
+static unsigned char lent_byte(size_t i)
+{
+    return (unsigned char)(i * 37 + 11);
+}
+
+static void *lend(struct room room, size_t size)
+{
+    unsigned char *there = place(room, size), *first = first_of(there);
+    for (size_t i = 0; i < size + BESIDE; i++)
+        first[i] = lent_byte(i);
+    return there;
+}
+
+static void look_at_lent(void *there, size_t size, const char *what)
+{
+    const unsigned char *first = first_of(there);
+    for (size_t i = 0; i < size + BESIDE; i++)
+        require(first[i] == lent_byte(i), what);
+}
+
+static void expect_unknown(uint32_t number, size_t offset, size_t length)
+{
+    size_t size = length * sizeof(uint32_t);
+    sqllex_answer *answer = lend(answer_room, sizeof *answer);
+    uint32_t *lent = lend(list_room, size);
+    require(sqllex_next(text, text_length, offset, number, answer) == SQLLEX_UNKNOWN_PROFILE, "next under no profile");
+    require(sqllex_cut(text, text_length, offset, number, answer) == SQLLEX_UNKNOWN_PROFILE, "cut under no profile");
+    require(sqllex_list_from(text, text_length, offset, number, lent, length, answer) == SQLLEX_UNKNOWN_PROFILE,
+            "list_from under no profile");
+    require(sqllex_list(text, text_length, number, lent, length) == 0, "records under no profile");
+    look_at_lent(answer, sizeof *answer, "a byte of an answer was written under no profile");
+    look_at_lent(lent, size, "a byte of a list was written under no profile");
+}
+
+/* Offsets in the text, at its end and past it; lists of no number, too short and long enough. The text cannot even be read. */
+static void try_unknown(void)
+{
+    static const uint32_t numbers[] = {2, 3, 99, 0x80000000, 0xffffffff};
+    static const size_t lengths[] = {0, 1, 2, 3, 7, 30};
+    const size_t offsets[] = {0, 1, text_length, text_length + 1, SIZE_MAX};
+    mprotect(text_room.bytes, text_room.size, PROT_NONE);
+    for (size_t n = 0; n < sizeof numbers / sizeof *numbers; n++)
+        for (size_t at = 0; at < sizeof offsets / sizeof *offsets; at++)
+            for (size_t i = 0; i < sizeof lengths / sizeof *lengths; i++)
+                expect_unknown(numbers[n], offsets[at], lengths[i]);
+}
+
+static void try_unknown_texts(void)
+{
+    static unsigned char bytes[SQLLEX_LONGEST_TEXT + 1];
+    TEXT("");
+    try_unknown();
+    TEXT("SELECT 1;");
+    try_unknown();
+    TEXT(":2 [a] && 1e_5 @>");
+    try_unknown();
+    TEXT("{");
+    try_unknown();
+    memset(bytes, ';', sizeof bytes);
+    set_text(bytes, sizeof bytes);
+    try_unknown();
+    text = NULL;
+    text_length = 0;
+    try_unknown();
+}
+
+/* What holds under each profile. */
+static void try_both(void)
+{
+    try_statement();
     try_next();
     try_numbers();
     try_list();
     try_cut();
     try_long();
-    try_words();
     try_null();
+}
+
+static void try_edges(void)
+{
+    try_both();
+    try_turso();
+    profile = SQLLEX_SQLITE;
+    try_both();
+    try_sqlite();
+    try_unknown_texts();
+    try_words();
+}
+
+static const char usage[] = "calls front|back next|sums|list N|cut [turso|sqlite], or calls front|back word|replay|edges";
+
+/* The second argument, and which behind it: a list's length N, a profile. */
+struct mode {
+    const char *name;
+    bool has_length, has_profile;
+    void (*print)(size_t offset);
+};
+
+static const struct mode *mode_named(const char *name)
+{
+    static const struct mode modes[] = {
+        {"next", false, true, print_next},
+        {"sums", false, true, print_sums},
+        {"list", true, true, print_one_list},
+        {"cut", false, true, print_cut},
+        {"word", false, false, print_word},
+        {"replay", false, false, print_replay},
+        {"edges", false, false, NULL}, /* reads no records */
+    };
+    for (size_t i = 0; i < sizeof modes / sizeof *modes; i++)
+        if (strcmp(modes[i].name, name) == 0)
+            return &modes[i];
+    fail(usage);
+    return NULL;
+}
+
+static size_t length_named(const char *digits)
+{
+    char *end;
+    unsigned long length = strtoul(digits, &end, 10);
+    require(end > digits && *end == '\0' && length <= LIST_MOST, usage);
+    return length;
+}
+
+static uint32_t profile_named(const char *name)
+{
+    bool sqlite = strcmp(name, "sqlite") == 0;
+    require(sqlite || strcmp(name, "turso") == 0, usage);
+    return sqlite ? SQLLEX_SQLITE : SQLLEX_TURSO;
 }
 
 int main(int argc, char **argv)
 {
-    static const char usage[] = "calls front|back next|sums|list N|cut|word|replay|edges";
-    require(argc == 3 || argc == 4, usage);
+    require(argc >= 3, usage);
     at_back = strcmp(argv[1], "back") == 0;
     require(at_back || strcmp(argv[1], "front") == 0, usage);
+    const struct mode *mode = mode_named(argv[2]);
+    int at = 3;
+    if (mode->has_length) {
+        require(at < argc, usage);
+        list_length = length_named(argv[at++]);
+    }
+    if (mode->has_profile && at < argc)
+        profile = profile_named(argv[at++]);
+    require(at == argc, usage);
     text_room = make_room(TEXT_MOST);
     list_room = make_room(LIST_MOST * sizeof(uint32_t) + BESIDE);
     answer_room = make_room(sizeof(sqllex_answer));
-    const char *mode = argv[2];
-    list_length = argc == 4 ? (size_t)atol(argv[3]) : 0;
-    require(list_length <= LIST_MOST, usage);
-    if (strcmp(mode, "next") == 0)
-        each_record(print_next);
-    else if (strcmp(mode, "sums") == 0)
-        each_record(print_sums);
-    else if (strcmp(mode, "list") == 0)
-        each_record(print_one_list);
-    else if (strcmp(mode, "cut") == 0)
-        each_record(print_cut);
-    else if (strcmp(mode, "word") == 0)
-        each_record(print_word);
-    else if (strcmp(mode, "replay") == 0)
-        each_record(print_replay);
-    else if (strcmp(mode, "edges") == 0)
-        try_edges();
+    if (mode->print != NULL)
+        each_record(mode->print);
     else
-        fail(usage);
+        try_edges();
     return 0;
 }

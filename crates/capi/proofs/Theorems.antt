@@ -3,6 +3,8 @@
 use Prim.Native.Nat.{ℕ}
 use mathlib.Core.Path.{_≡_, sym, _∙_, ap}
 use mathlib.Core.List.{List}
+use Rattle.grammar.specs.declared.profile.Profile.{Profile}
+use Rattle.grammar.specs.Longest.{source}
 use Rattle.lexer.specs.declared.lexed.Lexed.{Lexed}
 use Rattle.lexer.proofs.Theorems.{unique}
 use Rattle.lists.specs.declared.list.Listed.{Listed}
@@ -10,28 +12,47 @@ use Rattle.lists.specs.Lists.{recordsIn}
 use Rattle.lists.proofs.Theorems as lists
 use Rattle.capi.specs.declared.answers.Numbers.{Numbers}
 use Rattle.capi.specs.Numbers.{ofNext, ofList, ofCut, written}
-use Rattle.capi.specs.Calls.{Gave, NextNumbers, ListNumbers, ListCount, CutNumbers}
+use Rattle.capi.specs.declared.profiles.Chosen.{Chosen}
+use Rattle.capi.specs.declared.profiles.Chosen.the-variants.{Known, Unknown}
+use Rattle.capi.specs.Profiles.{profileOf, Under}
+use Rattle.capi.specs.Calls.{Gave, NextCall, ListCall, CountCall, CutCall}
 
 -- equal answers give the same numbers
 same : (x y : Numbers) (m n : ℕ) (k l : List ℕ) → x ≡ y → Gave x m k → Gave y n l → (m ≡ n) × (k ≡ l)
 same x y m n k l e (a, b) (c, d) = (a ∙ ap (λ (z : Numbers). z .status) e ∙ sym c, b ∙ ap written e ∙ sym d)
 
-pub next-unique : (s : List ℕ) (at m n : ℕ) (k l : List ℕ) → NextNumbers s at m k → NextNumbers s at n l → (m ≡ n) × (k ≡ l)
-next-unique s at m n k l x y =
-    same _ _ m n k l (ap ofNext (unique s at (x .answer) (y .answer) (x .owed) (y .owed))) (x .gave) (y .gave)
+-- two calls under the profile of the same number, or both with a number that is none's
+by-profile : (c : Chosen) (A B : Profile → Type 0) (X Y R : Type 0) → ((p : Profile) → A p → B p → R) → (X → Y → R) → Under c A X → Under c B Y → R
+by-profile (Known p) A B X Y R f g x y = f p x y
+by-profile Unknown A B X Y R f g x y = g x y
 
-pub list-unique : (s : List ℕ) (at : ℕ) (old : List ℕ) (m n : ℕ) (k l new new′ : List ℕ)
-    → ListNumbers s at old m k new → ListNumbers s at old n l new′ → (m ≡ n) × (k ≡ l) × (new ≡ new′)
-list-unique s at old m n k l new new′ x y =
-    let (e, w) = lists.list-unique s at old (x .answer) (y .answer) new new′ (x .owed) (y .owed) in
+pub next-unique : (s : List ℕ) (at profile : ℕ) (lent : List ℕ) (m n : ℕ) (k l : List ℕ)
+    → NextCall s at profile lent m k → NextCall s at profile lent n l → (m ≡ n) × (k ≡ l)
+next-unique s at profile lent m n k l =
+    by-profile (profileOf profile) _ _ _ _ _
+    (λ p x y. same _ _ m n k l (ap ofNext (unique p s at (x .answer) (y .answer) (x .owed) (y .owed))) (x .gave) (y .gave))
+    (λ x y. (x .0 ∙ sym (y .0), x .1 ∙ sym (y .1)))
+
+pub list-unique : (s : List ℕ) (at profile : ℕ) (old lent : List ℕ) (m n : ℕ) (k l new new′ : List ℕ)
+    → ListCall s at profile old lent m k new → ListCall s at profile old lent n l new′ → (m ≡ n) × (k ≡ l) × (new ≡ new′)
+list-unique s at profile old lent m n k l new new′ =
+    by-profile (profileOf profile) _ _ _ _ _
+    (λ p x y. let (e, w) = lists.list-unique (source p s) at old (x .answer) (y .answer) new new′ (x .owed) (y .owed) in
     let (a, b) = same _ _ m n k l (ap ofList e) (x .gave) (y .gave) in
-    (a, b, w)
+    (a, b, w))
+    (λ x y. (x .0 ∙ sym (y .0), x .1 ∙ sym (y .1), x .2 ∙ sym (y .2)))
 
-pub count-unique : (s old : List ℕ) (m n : ℕ) (new new′ : List ℕ) → ListCount s old m new → ListCount s old n new′ → (m ≡ n) × (new ≡ new′)
-count-unique s old m n new new′ x y =
-    let (e, w) = lists.list-unique s 0 old (x .answer) (y .answer) new new′ (x .owed) (y .owed) in
-    (x .gave ∙ ap recordsIn e ∙ sym (y .gave), w)
+pub count-unique : (s : List ℕ) (profile : ℕ) (old : List ℕ) (m n : ℕ) (new new′ : List ℕ)
+    → CountCall s profile old m new → CountCall s profile old n new′ → (m ≡ n) × (new ≡ new′)
+count-unique s profile old m n new new′ =
+    by-profile (profileOf profile) _ _ _ _ _
+    (λ p x y. let (e, w) = lists.list-unique (source p s) 0 old (x .answer) (y .answer) new new′ (x .owed) (y .owed) in
+    (x .gave ∙ ap recordsIn e ∙ sym (y .gave), w))
+    (λ x y. (x .0 ∙ sym (y .0), x .1 ∙ sym (y .1)))
 
-pub cut-unique : (s : List ℕ) (at m n : ℕ) (k l : List ℕ) → CutNumbers s at m k → CutNumbers s at n l → (m ≡ n) × (k ≡ l)
-cut-unique s at m n k l x y =
-    same _ _ m n k l (ap ofCut (lists.cut-unique s at (x .answer) (y .answer) (x .owed) (y .owed))) (x .gave) (y .gave)
+pub cut-unique : (s : List ℕ) (at profile : ℕ) (lent : List ℕ) (m n : ℕ) (k l : List ℕ)
+    → CutCall s at profile lent m k → CutCall s at profile lent n l → (m ≡ n) × (k ≡ l)
+cut-unique s at profile lent m n k l =
+    by-profile (profileOf profile) _ _ _ _ _
+    (λ p x y. same _ _ m n k l (ap ofCut (lists.cut-unique (source p s) at (x .answer) (y .answer) (x .owed) (y .owed))) (x .gave) (y .gave))
+    (λ x y. (x .0 ∙ sym (y .0), x .1 ∙ sym (y .1)))

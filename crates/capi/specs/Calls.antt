@@ -1,40 +1,65 @@
--- What the calls owe: the numbers of an answer that the call below them owes. Assumes nothing.
+-- What the calls owe: the numbers of an answer that the call below them owes under the profile whose number is given; for a number that is
+-- no profile's a status of its own, and everything lent as it was. Assumes nothing.
 use Prim.Native.Nat.{ℕ}
 use mathlib.Core.Path.{_≡_}
 use mathlib.Core.List.{List}
+use Rattle.grammar.specs.Longest.{Source, source}
 use Rattle.lexer.specs.declared.lexed.Lexed.{Lexed}
-use Rattle.lexer.specs.Values.{Lexes}
+use Rattle.lexer.specs.Values.{LexesUnder}
 use Rattle.lists.specs.declared.list.Listed.{Listed}
 use Rattle.lists.specs.declared.cut.Statement.{Statement}
 use Rattle.lists.specs.Lists.{recordsIn, Lists}
 use Rattle.lists.specs.Cuts.{Cuts}
 use Rattle.capi.specs.declared.answers.Numbers.{Numbers}
 use Rattle.capi.specs.Numbers.{ofNext, ofList, ofCut, written}
+use Rattle.capi.specs.Profiles.{profileOf, Under}
 
 -- the status and the six numbers written
 abbrev pub Gave : Numbers → ℕ → List ℕ → Type 0
 Gave r status six = (status ≡ r .status) × (six ≡ written r)
 
+-- the status where the number is no profile's
+abbrev pub unknownProfile : ℕ
+unknownProfile = 99
+
 -- Next
-pub record NextNumbers (s : List ℕ) (at status : ℕ) (six : List ℕ) : Type 0 where
+pub record NextNumbers (s : Source) (at status : ℕ) (six : List ℕ) : Type 0 where
   pub answer : Lexed
-  pub owed : Lexes s at answer
+  pub owed : LexesUnder (s .profile) (s .text) at answer
   pub gave : Gave (ofNext answer) status six
 
+-- with the six numbers before and after
+abbrev pub NextCall : List ℕ → ℕ → ℕ → List ℕ → ℕ → List ℕ → Type 0
+NextCall s at profile lent status six =
+    Under (profileOf profile) (λ p. NextNumbers (source p s) at status six) ((status ≡ unknownProfile) × (six ≡ lent))
+
 -- List, with the list before and after
-pub record ListNumbers (s : List ℕ) (at : ℕ) (old : List ℕ) (status : ℕ) (six new : List ℕ) : Type 0 where
+pub record ListNumbers (s : Source) (at : ℕ) (old : List ℕ) (status : ℕ) (six new : List ℕ) : Type 0 where
   pub answer : Listed
   pub owed : Lists s at old answer new
   pub gave : Gave (ofList answer) status six
 
+abbrev pub ListCall : List ℕ → ℕ → ℕ → List ℕ → List ℕ → ℕ → List ℕ → List ℕ → Type 0
+ListCall s at profile old lent status six new =
+    Under (profileOf profile) (λ p. ListNumbers (source p s) at old status six new)
+    ((status ≡ unknownProfile) × (six ≡ lent) × (new ≡ old))
+
 -- List from the text's beginning on: how many records it wrote, and the list
-pub record ListCount (s old : List ℕ) (records : ℕ) (new : List ℕ) : Type 0 where
+pub record ListCount (s : Source) (old : List ℕ) (records : ℕ) (new : List ℕ) : Type 0 where
   pub answer : Listed
   pub owed : Lists s 0 old answer new
   pub gave : records ≡ recordsIn answer
 
+abbrev pub CountCall : List ℕ → ℕ → List ℕ → ℕ → List ℕ → Type 0
+CountCall s profile old records new =
+    Under (profileOf profile) (λ p. ListCount (source p s) old records new) ((records ≡ 0) × (new ≡ old))
+
 -- the cut
-pub record CutNumbers (s : List ℕ) (at status : ℕ) (six : List ℕ) : Type 0 where
+pub record CutNumbers (s : Source) (at status : ℕ) (six : List ℕ) : Type 0 where
   pub answer : Statement
   pub owed : Cuts s at answer
   pub gave : Gave (ofCut answer) status six
+
+abbrev pub CutCall : List ℕ → ℕ → ℕ → List ℕ → ℕ → List ℕ → Type 0
+CutCall s at profile lent status six =
+    Under (profileOf profile) (λ p. CutNumbers (source p s) at status six) ((status ≡ unknownProfile) × (six ≡ lent))

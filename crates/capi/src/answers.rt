@@ -8,12 +8,14 @@ ghost use mathlib.Core.Path.{_≡_};
 ghost use Rattle.lexer.specs.Values.{numberOf};
 ghost use Rattle.capi.specs.Numbers.{five, ofToken, ofNext, ofList, ofCut, written};
 
-// The statuses that are no refusal, and the refusals that List adds.
+// The statuses that are no refusal, the refusals that List adds, and that of these calls where a number is no profile's.
 pub(crate) const END: u32 = 0;
 
 pub(crate) const TOO_LONG: u32 = 9;
 
 pub(crate) const LIST_FULL: u32 = 10;
+
+pub(crate) const UNKNOWN_PROFILE: u32 = 99;
 
 pub(crate) const TOKEN: u32 = 100;
 

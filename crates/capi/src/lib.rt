@@ -1,10 +1,14 @@
 // The library for C and Rust: numbers and slices in, numbers out. `include/sqllex.h` declares the calls and says what they take and give.
 mod answers;
+mod profiles;
 
+use crate::answers::UNKNOWN_PROFILE;
 use crate::answers::give;
 use crate::answers::of_cut;
 use crate::answers::of_list;
 use crate::answers::of_next;
+use crate::profiles::Chosen;
+use crate::profiles::profile_of;
 use lexer::cursor::Cursor;
 use lexer::next::next;
 use lists::cut::cut;
@@ -12,44 +16,67 @@ use words::lookup::is_quotable_keyword;
 use words::lookup::keyword_or_id_token;
 ghost use mathlib.Core.Path.{_≡_};
 ghost use Rattle.words.specs.Word.{kindOf, isQuotable};
-ghost use Rattle.capi.specs.Calls.{NextNumbers, ListNumbers, ListCount, CutNumbers};
+ghost use Rattle.capi.specs.Calls.{NextCall, ListCall, CountCall, CutCall};
 
 #[no_mangle]
-pub extern "C" fn sqllex_next(text: &[u8], offset: usize, answer: &mut [usize; 6]) -> u32
-    ensures { λ r. ⌜ NextNumbers (now (text .entry)) offset r (now (answer .exit)) ⌝ }
+pub extern "C" fn sqllex_next(
+    text: &[u8],
+    offset: usize,
+    profile: u32,
+    answer: &mut [usize; 6],
+) -> u32
+    ensures { λ r. ⌜ NextCall (now (text .entry)) offset profile (now (answer .entry)) r (now (answer .exit)) ⌝ }
 {
-    give(of_next(next(text, Cursor { at: offset })), answer)
+    let Chosen::Known(profile) = profile_of(profile) else {
+        return UNKNOWN_PROFILE;
+    };
+    give(of_next(next(text, Cursor { at: offset }, profile)), answer)
 }
 
 #[no_mangle]
 pub extern "C" fn sqllex_list_from(
     text: &[u8],
     offset: usize,
+    profile: u32,
     list: &mut [u32],
     answer: &mut [usize; 6],
 ) -> u32
-    ensures { λ r. ⌜ ListNumbers (now (text .entry)) offset (now (list .entry)) r (now (answer .exit)) (now (list .exit)) ⌝ }
+    ensures { λ r. ⌜ ListCall (now (text .entry)) offset profile (now (list .entry)) (now (answer .entry)) r (now (answer .exit)) (now (list .exit)) ⌝ }
 {
+    let Chosen::Known(profile) = profile_of(profile) else {
+        return UNKNOWN_PROFILE;
+    };
     give(
-        of_list(lists::list::list(text, Cursor { at: offset }, list)),
+        of_list(lists::list::list(text, Cursor { at: offset }, profile, list)),
         answer,
     )
 }
 
 // From the text's beginning, for a caller that wants no more than the number of records.
 #[no_mangle]
-pub extern "C" fn sqllex_list(text: &[u8], list: &mut [u32]) -> u64
-    ensures { λ r. ⌜ ListCount (now (text .entry)) (now (list .entry)) r (now (list .exit)) ⌝ }
+pub extern "C" fn sqllex_list(text: &[u8], profile: u32, list: &mut [u32]) -> u64
+    ensures { λ r. ⌜ CountCall (now (text .entry)) profile (now (list .entry)) r (now (list .exit)) ⌝ }
 {
-    let answer = of_list(lists::list::list(text, Cursor { at: 0 }, list));
+    let Chosen::Known(profile) = profile_of(profile) else {
+        return 0;
+    };
+    let answer = of_list(lists::list::list(text, Cursor { at: 0 }, profile, list));
     answer.value as u64
 }
 
 #[no_mangle]
-pub extern "C" fn sqllex_cut(text: &[u8], offset: usize, answer: &mut [usize; 6]) -> u32
-    ensures { λ r. ⌜ CutNumbers (now (text .entry)) offset r (now (answer .exit)) ⌝ }
+pub extern "C" fn sqllex_cut(
+    text: &[u8],
+    offset: usize,
+    profile: u32,
+    answer: &mut [usize; 6],
+) -> u32
+    ensures { λ r. ⌜ CutCall (now (text .entry)) offset profile (now (answer .entry)) r (now (answer .exit)) ⌝ }
 {
-    give(of_cut(cut(text, Cursor { at: offset })), answer)
+    let Chosen::Known(profile) = profile_of(profile) else {
+        return UNKNOWN_PROFILE;
+    };
+    give(of_cut(cut(text, Cursor { at: offset }, profile)), answer)
 }
 
 #[no_mangle]

@@ -1,8 +1,22 @@
 -- `capi::sqllex_list_from` meets its contract. Assumes nothing.
+use mathlib.Core.Path.{refl, sym, _∙_}
 use borrow.Author.Needs.{needs}
-use Rattle.capi.proofs.NumberLaws.{given}
+use Rattle.capi.proofs.NumberLaws.{given, under-known, under-unknown}
 use Rattle.capi.proofs.sqllex_list_from.Statement.{statement}
 use Rattle.capi.proofs.sqllex_list_from.Tie as tie
+
+profile-of-requires : tie.Need-profile-of-requires
+profile-of-requires c κs = search needs
+
+enum-known-profile : tie.Need-enum-known-profile
+enum-known-profile c = search needs
+
+enum-told : tie.Need-enum-told
+enum-told c = search needs
+
+-- the number is no profile's: nothing is written
+returns : tie.Need-returns
+returns c = under-unknown (sym (c .enum-told .given .1) ∙ c .before .before .profile-of .ensures) _ _ (refl, refl, refl)
 
 list-requires : tie.Need-list-requires
 list-requires c κs = search needs
@@ -16,10 +30,24 @@ give-requires c κs = search needs
 same-length : tie.Need-same-length
 same-length c = search needs
 
-returns : tie.Need-returns
-returns c =
-    record { answer = _; owed = c .before .before .before .before .before .list .ensures; gave = given _ _ _ _ (c .before .before .of-list .ensures) (c .give .ensures) }
+returns-2 : tie.Need-returns-2
+returns-2 c =
+    let list = c .before .before .before .before .before .list in
+    let profile = c .before .before .before .before .before .before .before .before .profile in
+    let profile-of = c .before .before .before .before .before .before .before .before .before .before .profile-of in
+    under-known (sym (profile .given .1) ∙ profile-of .ensures) _ _
+    (record { answer = _; owed = list .ensures; gave = given _ _ _ _ (c .before .before .of-list .ensures) (c .give .ensures) })
 
 pub sqllex-list-from-spec : {M : Type 1} → statement M
 sqllex-list-from-spec =
-    tie.close (tie.spec list-requires of-list-requires give-requires same-length returns)
+    tie.close
+    (tie.spec
+    profile-of-requires
+    enum-known-profile
+    enum-told
+    returns
+    list-requires
+    of-list-requires
+    give-requires
+    same-length
+    returns-2)
