@@ -1,13 +1,14 @@
--- Strings, blobs, numbers, comments and parameters as SQLite's published pages have them (sqlite3-doc 3.40.1), in the pages' words.
--- The pages do not say which bytes a digit, a name or a blank has: these are document 01's. Assumes nothing.
+-- Strings, blobs, numbers, comments, parameters, quoted names and operators as SQLite's published pages have them (sqlite3-doc 3.40.1), in
+-- the pages' words. The pages do not say which bytes a digit, a name or a blank has: these are document 01's. Assumes nothing.
 use Prim.Native.Nat.{ℕ}
 use mathlib.Core.Path.{_≡_}
 use mathlib.Core.List.{List, []}
 use mathlib.Core.Logic.{_↔_, _⊎_}
 use lib.ListN.{take, drop}
+use Rattle.grammar.specs.declared.profile.Profile.{Profile}
 use Rattle.grammar.specs.Form.{D, H, S, C, blank, no, _or_, _except_, oneOf}
-use Rattle.grammar.specs.Form.{Form, anything, one, _·_, _∣_, _but_, many, Has, lit, run, some, opt, without}
-use Rattle.grammar.specs.Classes.{Class, Rule}
+use Rattle.grammar.specs.Form.{Form, never, anything, one, _·_, _∣_, _but_, many, Has, lit, run, some, opt, without}
+use Rattle.grammar.specs.Classes.{Class, Rule, by}
 use Rattle.grammar.specs.Longest.{Stands, Opens}
 
 -- lang_expr.html, section 3, Literal Values (Constants)
@@ -92,19 +93,49 @@ suffixBody = run (no (oneOf ")" or blank))
 abbrev pub otherSuffix : Form
 otherSuffix = lit "$" · nameWithPairs · lit "(" · (anything but suffixBody) · lit ")"
 
--- What it adds: names whose first byte but for pairs is a digit or `$` (after `:` only behind a pair); and, after `:` and `@` too,
--- pairs and a suffix.
+-- What it adds: names whose first byte but for pairs is a digit or `$` (after `:` only behind a pair; request 7: there too); and, after
+-- `:` and `@` too, pairs and a suffix.
 abbrev pub suffix : Form
 suffix = lit "(" · suffixBody · lit ")"
 
-abbrev pub otherFirst : Form
-otherFirst = (one (oneOf "$@") ∣ lit ":" · lit "::") · many (lit "::") · one (C except S) · many (one C ∣ lit "::") · opt suffix
+abbrev pub otherFirst : Profile → Form
+otherFirst p = (one (oneOf "$@") ∣ by p (lit ":" · lit "::") (lit ":")) · many (lit "::") · one (C except S) · many (one C ∣ lit "::") · opt suffix
 
 abbrev pub moreAfterColon : Form
 moreAfterColon = one (oneOf ":@") · nameWithPairs · opt suffix but colonOrAt
 
-abbrev pub added : Form
-added = otherFirst ∣ moreAfterColon
+abbrev pub added : Profile → Form
+added p = otherFirst p ∣ moreAfterColon
+
+-- lang_keywords.html: 'A keyword in double-quotes is an identifier.' 'A keyword enclosed in square brackets is an identifier.' 'A keyword
+-- enclosed in grave accents (ASCII code 96) is an identifier.' What else may stand there it does not say. It is read so: anything but
+-- the byte that closes; that one doubled, as in a string, but for `]`.
+abbrev pub inDoubleQuotes : Form
+inDoubleQuotes = lit "\"" · many (one (no (oneOf "\"")) ∣ lit "\"\"") · lit "\""
+
+abbrev pub inGraveAccents : Form
+inGraveAccents = lit "`" · many (one (no (oneOf "`")) ∣ lit "``") · lit "`"
+
+abbrev pub inSquareBrackets : Form
+inSquareBrackets = lit "[" · without "]" · lit "]"
+
+-- lang_expr.html, section 2, Operators: those that are no words; and the marks of other diagrams
+abbrev pub operators : Form
+operators =
+    lit "~" ∣ lit "+" ∣ lit "-" ∣ lit "||" ∣ lit "->" ∣ lit "->>" ∣ lit "*" ∣ lit "/" ∣ lit "%" ∣ lit "&" ∣ lit "|" ∣ lit "<<" ∣ lit ">>" ∣
+    lit "<" ∣ lit ">" ∣ lit "<=" ∣ lit ">=" ∣ lit "=" ∣ lit "==" ∣ lit "<>" ∣ lit "!="
+
+abbrev pub marks : Form
+marks = lit "(" ∣ lit ")" ∣ lit "," ∣ lit "." ∣ lit ";"
+
+-- what is an operator besides: `]`, and by document 01 alone four more
+abbrev pub notOnPage : Profile → Form
+notOnPage p = lit "]" ∣ by p (lit "[" ∣ lit ":" ∣ lit "&&" ∣ lit "@>") never
+
+-- a `_` that does not stand between two digits
+abbrev pub looseUnderscore : Form
+looseUnderscore =
+    lit "_" · anything ∣ anything · one (no D) · lit "_" · anything ∣ anything · lit "_" · one (no D) · anything ∣ anything · lit "_"
 
 -- How a class and the pages' forms may relate. The class has just the texts of the form; just those and, with `_`, others; or those of
 -- one form, and those of another where the text ends behind them.

@@ -1,4 +1,4 @@
--- The grammar's definitions give the answers of the fixed list's walks. Assumes nothing.
+-- The grammar's definitions give, under the profile Turso, the answers of the fixed list's walks. Assumes nothing.
 use Prim.Native.Nat.{ℕ, zero, suc}
 use Prim.Native.String
 use Prim.Native.String.{String}
@@ -11,6 +11,7 @@ use Rattle.keywords.specs.Words.{wordList}
 use Rattle.keywords.proofs.Logic.{every}
 use Rattle.words.specs.Bytes.{isDigit, isHexdigit, isIdentifierStart, isIdentifierContinue, isBlank}
 use Rattle.words.specs.Word.{upper, kindOf}
+use Rattle.grammar.specs.declared.profile.Profile.the-variants.{Turso}
 use Rattle.grammar.specs.Classes.{operators, rules}
 use Rattle.grammar.specs.Answers.{Answer, answer}
 use Rattle.grammar.specs.Texts.{offset}
@@ -22,7 +23,7 @@ use Rattle.trial.specs.Rows.{rows}
 abbrev walked : ℕ → List ℕ → ℕ → String
 walked zero s at = ""
 walked (suc n) s at =
-    let a = next rules s at in
+    let a = next (rules Turso) s at in
     let more = String._++_ (shown a) (String._++_ " " (walked n s (offset a))) in
     cond (isToken a) more (shown a)
 
