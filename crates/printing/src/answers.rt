@@ -10,6 +10,7 @@ use crate::lines::put_token;
 use crate::lines::put_why;
 use crate::numbers::put_column;
 use crate::numbers::put_number;
+use grammar::profile::Profile;
 use lexer::cursor::Cursor;
 use lexer::lexed::Lexed;
 use lexer::next::next;
@@ -23,7 +24,7 @@ use rows::out::put;
 use rows::out::put_byte;
 use words::lookup::is_quotable_keyword;
 use words::lookup::keyword_or_id_token;
-ghost use Rattle.lexer.specs.Values.{Lexes};
+ghost use Rattle.lexer.specs.Values.{LexesUnder};
 ghost use Rattle.rows.specs.Out.{Within};
 
 // How a text is walked: by `next`; so, and with each token's digits and underscores; with them, by a reader.
@@ -41,6 +42,7 @@ pub(crate) fn put_walk(
     text: &[u8],
     offset: usize,
     way: Way,
+    profile: Profile,
 ) -> usize
     ensures { λ r. ⌜ Within (now (out .exit)) r ⌝ }
 {
@@ -48,7 +50,7 @@ pub(crate) fn put_walk(
     let mut end = at;
     let mut tokens = 0;
     loop {
-        match lexed_at(text, cursor, way) {
+        match lexed_at(text, cursor, way, profile) {
             Lexed::Token {
                 kind,
                 start,
@@ -74,13 +76,13 @@ pub(crate) fn put_walk(
 }
 
 // The same answer, from `next` or through a reader.
-fn lexed_at(text: &[u8], cursor: Cursor, way: Way) -> Lexed
-    ensures { λ r. ⌜ Lexes (now (text .entry)) (cursor .at) r ⌝ }
+fn lexed_at(text: &[u8], cursor: Cursor, way: Way, profile: Profile) -> Lexed
+    ensures { λ r. ⌜ LexesUnder profile (now (text .entry)) (cursor .at) r ⌝ }
 {
     match way {
-        Way::Next => next(text, cursor),
-        Way::Sums => next(text, cursor),
-        Way::Reader => read_at(text, cursor.at),
+        Way::Next => next(text, cursor, profile),
+        Way::Sums => next(text, cursor, profile),
+        Way::Reader => read_at(text, cursor.at, profile),
     }
 }
 
@@ -102,12 +104,13 @@ pub(crate) fn put_list(
     at: usize,
     text: &[u8],
     offset: usize,
+    profile: Profile,
     numbers: &mut [u32],
 ) -> usize
     ensures { λ r. ⌜ Within (now (out .exit)) r ⌝ }
 {
     unset(numbers);
-    let listed = list(text, Cursor { at: offset }, numbers);
+    let listed = list(text, Cursor { at: offset }, profile, numbers);
     let end = put_numbers(out, at, numbers);
     put_listed(out, end, listed)
 }
@@ -170,10 +173,16 @@ fn put_listed(out: &mut [u8], at: usize, listed: Listed) -> usize
 }
 
 // CUT, the span, whether it has a token that counts, and the offset; or OPEN or END, the span and the offset; or the refusal.
-pub(crate) fn put_cut(out: &mut [u8], at: usize, text: &[u8], offset: usize) -> usize
+pub(crate) fn put_cut(
+    out: &mut [u8],
+    at: usize,
+    text: &[u8],
+    offset: usize,
+    profile: Profile,
+) -> usize
     ensures { λ r. ⌜ Within (now (out .exit)) r ⌝ }
 {
-    match cut(text, Cursor { at: offset }) {
+    match cut(text, Cursor { at: offset }, profile) {
         Statement::Cut {
             start,
             length,

@@ -10,6 +10,7 @@ use crate::records::Unread;
 use crate::records::read_record;
 use crate::records::unread_none;
 use crate::replay::put_replay;
+use grammar::profile::Profile;
 use rows::out::flush;
 use rows::out::put;
 ghost use Rattle.rows.specs.Out.{Within};
@@ -25,19 +26,20 @@ pub enum Mode {
     Replay,
 }
 
-// Answers each record of standard input. One that is too long or cut off, or cannot be read, prints BADRECORD and is the last.
-pub fn print_records(mode: Mode) {
+// Answers each record of standard input, as the profile has it; a word's lookup has none. One that is too long or cut off, or cannot be read, prints BADRECORD and is the last.
+pub fn print_records(mode: Mode, profile: Profile) {
     let names = all_names();
     // `Replay` lends four more than a list fills.
     let mut numbers = [0u32; 196609];
     let mut row = [0u8; 131072];
     let mut out = io::large_buffer();
-    answer_records(mode, &names, &mut numbers, &mut row, &mut out);
+    answer_records(mode, profile, &names, &mut numbers, &mut row, &mut out);
 }
 
 // A loop has to end, and nothing says that the input does: it counts down from a number that no input uses up.
 fn answer_records(
     mode: Mode,
+    profile: Profile,
     names: &[u8; 2992],
     numbers: &mut [u32],
     row: &mut [u8],
@@ -58,7 +60,16 @@ fn answer_records(
             print_last(out, at, found);
             return;
         };
-        at = put_answer(out, at, mode, names, &row[start..end], offset, numbers);
+        at = put_answer(
+            out,
+            at,
+            mode,
+            profile,
+            names,
+            &row[start..end],
+            offset,
+            numbers,
+        );
         unread = Unread {
             from: end,
             to,
@@ -82,6 +93,7 @@ fn put_answer(
     out: &mut [u8],
     at: usize,
     mode: Mode,
+    profile: Profile,
     names: &[u8; 2992],
     text: &[u8],
     offset: usize,
@@ -90,11 +102,11 @@ fn put_answer(
     ensures { λ r. ⌜ Within (now (out .exit)) r ⌝ }
 {
     match mode {
-        Mode::Next => put_walk_block(out, at, names, text, offset, Way::Next),
-        Mode::Sums => put_walk_block(out, at, names, text, offset, Way::Sums),
-        Mode::List(n) => put_list_block(out, at, text, offset, numbers, n),
-        Mode::Cut => put_cut_block(out, at, text, offset),
+        Mode::Next => put_walk_block(out, at, names, text, offset, Way::Next, profile),
+        Mode::Sums => put_walk_block(out, at, names, text, offset, Way::Sums, profile),
+        Mode::List(n) => put_list_block(out, at, text, offset, profile, numbers, n),
+        Mode::Cut => put_cut_block(out, at, text, offset, profile),
         Mode::Word => put_word_block(out, at, names, text),
-        Mode::Replay => put_replay(out, at, names, text, offset, numbers),
+        Mode::Replay => put_replay(out, at, names, text, offset, profile, numbers),
     }
 }

@@ -4,6 +4,7 @@ use crate::answers::put_cut;
 use crate::answers::put_list;
 use crate::answers::put_walk;
 use crate::answers::put_word;
+use grammar::profile::Profile;
 use rows::out::put_byte;
 ghost use Prim.Native.Nat.{_≤_};
 ghost use Rattle.io.specs.Counts.{Counts};
@@ -16,10 +17,11 @@ pub(crate) fn put_walk_block(
     text: &[u8],
     offset: usize,
     way: Way,
+    profile: Profile,
 ) -> usize
     ensures { λ r. ⌜ Within (now (out .exit)) r ⌝ }
 {
-    let end = put_walk(out, at, names, text, offset, way);
+    let end = put_walk(out, at, names, text, offset, way, profile);
     put_byte(out, end, b'\n')
 }
 
@@ -29,13 +31,14 @@ pub(crate) fn put_list_block(
     at: usize,
     text: &[u8],
     offset: usize,
+    profile: Profile,
     numbers: &mut [u32],
     n: usize,
 ) -> usize
     ensures { λ r. ⌜ Within (now (out .exit)) r ⌝ }
 {
     let lent = first(numbers, n);
-    let end = put_list(out, at, text, offset, &mut numbers[..lent]);
+    let end = put_list(out, at, text, offset, profile, &mut numbers[..lent]);
     put_byte(out, end, b'\n')
 }
 
@@ -52,10 +55,16 @@ pub(crate) fn least(a: usize, b: usize) -> usize
     if a < b { a } else { b }
 }
 
-pub(crate) fn put_cut_block(out: &mut [u8], at: usize, text: &[u8], offset: usize) -> usize
+pub(crate) fn put_cut_block(
+    out: &mut [u8],
+    at: usize,
+    text: &[u8],
+    offset: usize,
+    profile: Profile,
+) -> usize
     ensures { λ r. ⌜ Within (now (out .exit)) r ⌝ }
 {
-    let end = put_cut(out, at, text, offset);
+    let end = put_cut(out, at, text, offset, profile);
     put_byte(out, end, b'\n')
 }
 

@@ -7,6 +7,7 @@ use crate::blocks::least;
 use crate::blocks::put_cut_block;
 use crate::blocks::put_list_block;
 use crate::blocks::put_walk_block;
+use grammar::profile::Profile;
 use lexer::cursor::Cursor;
 use lists::list::LONGEST_TEXT;
 use lists::list::Listed;
@@ -20,38 +21,53 @@ pub(crate) fn put_replay(
     names: &[u8; 2992],
     text: &[u8],
     offset: usize,
+    profile: Profile,
     numbers: &mut [u32],
 ) -> usize
     ensures { λ r. ⌜ Within (now (out .exit)) r ⌝ }
 {
-    let walked = put_walk_block(out, at, names, text, offset, Way::Sums);
-    let read = put_walk_block(out, walked, names, text, offset, Way::Reader);
-    let small = put_small(out, read, text, offset, numbers);
-    let near = put_near(out, small, text, offset, numbers);
-    put_cut_block(out, near, text, offset)
+    let walked = put_walk_block(out, at, names, text, offset, Way::Sums, profile);
+    let read = put_walk_block(out, walked, names, text, offset, Way::Reader, profile);
+    let small = put_small(out, read, text, offset, profile, numbers);
+    let near = put_near(out, small, text, offset, profile, numbers);
+    put_cut_block(out, near, text, offset, profile)
 }
 
 // Lists of 0 to 7 numbers.
-fn put_small(out: &mut [u8], at: usize, text: &[u8], offset: usize, numbers: &mut [u32]) -> usize
+fn put_small(
+    out: &mut [u8],
+    at: usize,
+    text: &[u8],
+    offset: usize,
+    profile: Profile,
+    numbers: &mut [u32],
+) -> usize
     ensures { λ r. ⌜ Within (now (out .exit)) r ⌝ }
 {
-    let mut end = put_list_block(out, at, text, offset, numbers, 0);
+    let mut end = put_list_block(out, at, text, offset, profile, numbers, 0);
     let mut n = 1;
     while n < 8 {
-        end = put_list_block(out, end, text, offset, numbers, n);
+        end = put_list_block(out, end, text, offset, profile, numbers, n);
         n += 1;
     }
     end
 }
 
 // Lists of one number too few for the text's records, of just enough, and of four more.
-fn put_near(out: &mut [u8], at: usize, text: &[u8], offset: usize, numbers: &mut [u32]) -> usize
+fn put_near(
+    out: &mut [u8],
+    at: usize,
+    text: &[u8],
+    offset: usize,
+    profile: Profile,
+    numbers: &mut [u32],
+) -> usize
     ensures { λ r. ⌜ Within (now (out .exit)) r ⌝ }
 {
-    let full = 3 * records(text, offset, numbers);
-    let short = put_list_block(out, at, text, offset, numbers, before(full));
-    let exact = put_list_block(out, short, text, offset, numbers, full);
-    put_list_block(out, exact, text, offset, numbers, full + 4)
+    let full = 3 * records(text, offset, profile, numbers);
+    let short = put_list_block(out, at, text, offset, profile, numbers, before(full));
+    let exact = put_list_block(out, short, text, offset, profile, numbers, full);
+    put_list_block(out, exact, text, offset, profile, numbers, full + 4)
 }
 
 fn before(n: usize) -> usize {
@@ -60,11 +76,11 @@ fn before(n: usize) -> usize {
 
 // How many records the text has in a list with room for any. They are no more than the longest text has bytes; `least` says so to the
 // sums above.
-fn records(text: &[u8], offset: usize, numbers: &mut [u32]) -> usize
+fn records(text: &[u8], offset: usize, profile: Profile, numbers: &mut [u32]) -> usize
     ensures { λ r. ⌜ r ≤ 65535 ⌝ }
 {
     let lent = first(numbers, MOST);
-    match list(text, Cursor { at: offset }, &mut numbers[..lent]) {
+    match list(text, Cursor { at: offset }, profile, &mut numbers[..lent]) {
         Listed::End { records, next: _ } => least(records, LONGEST_TEXT),
         Listed::Refused {
             why: _,

@@ -4,12 +4,13 @@ use crate::answers::put_walk;
 use crate::kinds::all_names;
 use crate::records::fill;
 use crate::records::unread_none;
+use grammar::profile::Profile;
 use lists::list::LONGEST_TEXT;
 use rows::out::filled;
 use rows::out::flush;
 use rows::out::put;
 
-// A line for each token, then how it ended. More than 65,535 bytes are refused as TooLong; of input that cannot be read nothing is printed.
+// A line for each token under the profile Turso, then how it ended. More than 65,535 bytes are refused as TooLong; of input that cannot be read nothing is printed.
 pub fn print_text() {
     let names = all_names();
     // It holds one byte more than the longest text, which is enough to know that a text is too long.
@@ -25,6 +26,14 @@ pub fn print_text() {
         flush(&out, end);
         return;
     }
-    let end = put_walk(&mut out, 0, &names, &text[..n], 0, Way::Next);
+    let end = put_walk(
+        &mut out,
+        0,
+        &names,
+        &text[..n],
+        0,
+        Way::Next,
+        Profile::Turso,
+    );
     flush(&out, end);
 }

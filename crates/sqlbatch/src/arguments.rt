@@ -1,10 +1,11 @@
-// The mode that the program's arguments ask for.
+// The mode and the profile that the program's arguments ask for.
+use grammar::profile::Profile;
 use printing::MOST;
 use printing::batch::Mode;
 ghost use Prim.Native.Nat.{_≤_, _<_};
 
 pub(crate) enum Asked {
-    For(Mode),
+    For(Mode, Profile),
     Unknown,
 }
 
@@ -13,35 +14,28 @@ enum Number {
     Bad,
 }
 
-// A missing argument reads as an empty word, and so does one longer than the buffer: neither is a mode or a number.
+// A missing argument reads as an empty word, and so does one longer than the buffer: neither is a mode, a number or a profile.
 pub(crate) fn read_arguments() -> Asked {
     let mut buffer = io::buffer();
     let n = os::arg(1, &mut buffer);
-    let words = os::arg_count();
-    if check::same(&buffer[..n], b"list") {
-        if words == 3 {
-            return asked_list();
-        }
-        return Asked::Unknown;
-    }
-    if words == 2 {
-        return plain_mode(&buffer[..n]);
-    }
-    Asked::Unknown
+    asked_mode(&buffer[..n])
 }
 
-fn plain_mode(word: &[u8]) -> Asked {
+fn asked_mode(word: &[u8]) -> Asked {
     if check::same(word, b"next") {
-        return Asked::For(Mode::Next);
+        return with_profile(Mode::Next, 2);
     }
     if check::same(word, b"sums") {
-        return Asked::For(Mode::Sums);
+        return with_profile(Mode::Sums, 2);
+    }
+    if check::same(word, b"list") {
+        return asked_list();
     }
     if check::same(word, b"cut") {
-        return Asked::For(Mode::Cut);
+        return with_profile(Mode::Cut, 2);
     }
     if check::same(word, b"word") {
-        return Asked::For(Mode::Word);
+        return asked_word();
     }
     Asked::Unknown
 }
@@ -52,7 +46,37 @@ fn asked_list() -> Asked {
     let Number::Of(numbers) = decimal(&buffer[..n]) else {
         return Asked::Unknown;
     };
-    Asked::For(Mode::List(numbers))
+    with_profile(Mode::List(numbers), 3)
+}
+
+// A word is looked up the same way under each profile.
+fn asked_word() -> Asked {
+    if os::arg_count() == 2 {
+        return Asked::For(Mode::Word, Profile::Turso);
+    }
+    Asked::Unknown
+}
+
+// The profile is the last word, behind so many others, if it is there.
+fn with_profile(mode: Mode, others: usize) -> Asked
+    requires { ⌜ others ≤ 3 ⌝ }
+{
+    let words = os::arg_count();
+    if words == others {
+        return Asked::For(mode, Profile::Turso);
+    }
+    if words != others + 1 {
+        return Asked::Unknown;
+    }
+    let mut buffer = io::buffer();
+    let n = os::arg(others, &mut buffer);
+    if check::same(&buffer[..n], b"turso") {
+        return Asked::For(mode, Profile::Turso);
+    }
+    if check::same(&buffer[..n], b"sqlite") {
+        return Asked::For(mode, Profile::Sqlite);
+    }
+    Asked::Unknown
 }
 
 // The number that decimal digits say.

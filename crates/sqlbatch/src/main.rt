@@ -1,4 +1,4 @@
-// sqlbatch MODE: what `next`, also with sums, a list of N numbers, the cut or the word's lookup answers for each record of standard input.
+// sqlbatch MODE [PROFILE]: what `next`, also with sums, a list of N numbers, the cut or the word's lookup answers for each record of standard input.
 mod arguments;
 
 use crate::arguments::Asked;
@@ -7,12 +7,12 @@ use libc::STDOUT_FILENO;
 use printing::batch::print_records;
 
 fn main() {
-    let Asked::For(mode) = read_arguments() else {
+    let Asked::For(mode, profile) = read_arguments() else {
         io::write_all(
             STDOUT_FILENO,
-            b"sqlbatch MODE, where MODE is next, sums, list N (N from 0 to 196605), cut or word\n",
+            b"sqlbatch MODE [PROFILE], where MODE is next, sums, list N (N from 0 to 196605), cut or word, and PROFILE, not for word, turso or sqlite\n",
         );
         return;
     };
-    print_records(mode);
+    print_records(mode, profile);
 }

@@ -5,25 +5,26 @@ use mathlib.Core.Path.{_≡_, subst}
 use mathlib.Core.List.{List}
 use lib.ListN.{length}
 use borrow.Author.Needs.{needs}
+use Rattle.grammar.specs.declared.profile.Profile.{Profile}
 use Rattle.lexer.specs.declared.cursor.Cursor.{Cursor}
 use Rattle.lexer.specs.declared.lexed.Lexed.{Lexed}
 use Rattle.lexer.specs.declared.lexed.Lexed.the-variants.{Token}
-use Rattle.lexer.specs.Values.{Lexes}
+use Rattle.lexer.specs.Values.{LexesUnder}
 use Rattle.lexer.proofs.Moves.{moves}
 use Rattle.printing.proofs.answers.put_walk.Statement.{statement}
 use Rattle.printing.proofs.answers.put_walk.Tie as tie
 
 -- behind a token the cursor has moved on, and not out of the text
-advances : (s : List ℕ) (at : ℕ) {k start n d u : ℕ} {r : Lexed} {next : Cursor} → r ≡ Token k start n next d u → Lexes s at r
-    → (at < next .at) × (next .at ≤ length s)
-advances s at e h = moves s at _ _ _ _ _ _ (subst (Lexes s at) e h)
+advances : (π : Profile) (s : List ℕ) (at : ℕ) {k start n d u : ℕ} {r : Lexed} {next : Cursor} → r ≡ Token k start n next d u
+    → LexesUnder π s at r → (at < next .at) × (next .at ≤ length s)
+advances π s at e h = moves π s at _ _ _ _ _ _ (subst (LexesUnder π s at) e h)
 
 abbrev Inv-loop : tie.InvT-loop
-Inv-loop out₀ at names text offset way cursor₀ end₀ tokens₀ out cursor end tokens =
+Inv-loop out₀ at names text offset way profile cursor₀ end₀ tokens₀ out cursor end tokens =
     (length out ≡ length out₀) × (tokens ≤ cursor .at)
 
 abbrev μ-loop : tie.MeasureT-loop
-μ-loop out₀ at names text offset way cursor₀ end₀ tokens₀ out cursor end tokens = length text - cursor .at
+μ-loop out₀ at names text offset way profile cursor₀ end₀ tokens₀ out cursor end tokens = length text - cursor .at
 
 loop-holds : tie.Need-loop-holds Inv-loop μ-loop
 loop-holds c = search needs
@@ -47,7 +48,7 @@ known c = c .before .before .before .before .before .before .before .before .bef
 moved : (c : tie.After-slice-known3 Inv-loop μ-loop)
     → (known c .before .before .before .loop .cursor .at < known c .kind .given .0 .1 .1 .1 .0 .at)
     × (known c .kind .given .0 .1 .1 .1 .0 .at ≤ length (known c .before .before .before .before .before .before .args .text .now))
-moved c = advances _ _ (known c .kind .given .1) (known c .before .before .lexed-at .ensures)
+moved c = advances _ _ _ (known c .kind .given .1) (known c .before .before .lexed-at .ensures)
 
 add-tokens : tie.Need-add-tokens Inv-loop μ-loop
 add-tokens c = let h = moved c in omega arith

@@ -7,11 +7,11 @@ use Rattle.printing.proofs.replay.put_small.Statement.{statement}
 use Rattle.printing.proofs.replay.put_small.Tie as tie
 
 abbrev Inv-loop : tie.InvT-loop
-Inv-loop out₀ at text offset numbers₀ end₀ n₀ out numbers end n =
+Inv-loop out₀ at text offset profile numbers₀ end₀ n₀ out numbers end n =
     (end ≤ length out) × (length out ≡ length out₀) × (length numbers ≡ length numbers₀) × (n ≤ 8)
 
 abbrev μ-loop : tie.MeasureT-loop
-μ-loop out₀ at text offset numbers₀ end₀ n₀ out numbers end n = 8 - n
+μ-loop out₀ at text offset profile numbers₀ end₀ n₀ out numbers end n = 8 - n
 
 put-list-block-requires : tie.Need-put-list-block-requires Inv-loop μ-loop
 put-list-block-requires c κs = search needs
