@@ -2,7 +2,7 @@
 
 use crate::lexer::{is_quotable_keyword, word_kind};
 use crate::texts::{self, Question};
-use crate::walk::{walk, Stop};
+use crate::walk::{walk, Source, Stop};
 use std::collections::BTreeSet;
 use std::fmt::Write as _;
 use std::io::{self, Write};
@@ -48,7 +48,7 @@ pub fn print(out: &mut impl Write) -> io::Result<()> {
 
 fn answers(text: &[u8], offset: usize, met: &mut Met) -> io::Result<String> {
     let mut line = String::new();
-    let stop = walk(text, offset, |kind, start, length| {
+    let stop = walk(Source::Published, text, offset, |kind, start, length| {
         met.kinds.insert(format!("{kind:?}"));
         line += &format!("{kind:?},{start},{length} ");
         Ok(())

@@ -1,4 +1,5 @@
-//! The published lexer beside another program that answers the same records: texts by many rules, answers byte for byte.
+//! The published lexer, or Next stated a second time, beside another program that answers the same records: texts by many rules, answers
+//! byte for byte. And the second statement beside the published lexer, and beside SQLite's tokenizer.
 
 mod alphabets;
 mod corpus;
@@ -8,13 +9,18 @@ mod families;
 mod lexemes;
 mod lists;
 mod makers;
+mod near;
 mod random;
 mod shares;
 mod statements;
+mod tokenizer;
 mod walks;
 mod words;
 
 use crate::modes::Mode;
+use crate::records;
+use crate::second::Profile;
+use crate::walk::Source;
 use corpus::Corpus;
 use families::{Family, Plan};
 use random::Random;
@@ -24,38 +30,109 @@ use std::process::{Command, ExitStatus, Stdio};
 use std::sync::atomic::{AtomicU64, Ordering};
 use std::sync::Mutex;
 use std::thread;
+pub use tokenizer::{tokenizer, tokens};
 
 /// As much of a long answer is shown, around the place where it is another.
 const SHOWN: usize = 4_000;
 
-/// COUNT SEED FOLDER PROGRAM [ARG..]: about COUNT texts; `-` for no folder. True if the program answers as the lexer does.
+/// COUNT SEED FOLDER PROGRAM [ARG..]: about COUNT texts; `-` for no folder. True if the program answers as the published lexer does, and
+/// under `sqlite` as the second statement.
 pub fn compare(out: &mut impl Write, args: &[String]) -> io::Result<bool> {
-    let [count, seed, folder, program @ ..] = args else {
-        return Err(Error::other("compare COUNT SEED FOLDER PROGRAM [ARG..]"));
-    };
-    let number = |word: &String| word.parse::<u64>().map_err(Error::other);
-    let (count, seed) = (number(count)?, number(seed)?);
-    let corpus = if folder == "-" { Corpus::default() } else { Corpus::read(Path::new(folder))? };
-    let mut texts = 0;
-    for (place, family) in shares::all(Plan { count, seed, corpus: &corpus }).iter().enumerate() {
-        let asked = Asked { family, place: place as u64, seed, program };
-        if let Some((index, told)) = asked.all()? {
-            writeln!(out, "a difference: text {index} of '{}', seed {seed}\n{told}", family.name)?;
-            return Ok(false);
-        }
-        writeln!(out, "{:<32} {:>10} texts, no difference", family.name, family.count)?;
-        out.flush()?;
-        texts += family.count;
-    }
-    writeln!(out, "{:<32} {texts:>10} texts, no difference", "total")?;
+    let (wanted, program) = Wanted::read(args)?;
+    let families = shares::all(wanted.plan());
+    let texts = wanted.ask(out, &families, Other::Program(program))?;
+    let Some([turso, sqlite]) = texts else { return Ok(false) };
+    count(out, "total", turso)?;
+    count(out, "sqlite: total", sqlite)?;
     Ok(true)
+}
+
+/// COUNT SEED FOLDER: the same texts, but for single words, all under `turso`. True if the second statement answers as the published
+/// lexer does.
+pub fn second(out: &mut impl Write, args: &[String]) -> io::Result<bool> {
+    let (wanted, _) = Wanted::read(args)?;
+    let families = shares::all(wanted.plan()).into_iter().map(|family| family.under(Profile::Turso));
+    let families: Vec<_> = families.filter(|family| !matches!((family.mode)(0), Mode::Word)).collect();
+    let Some([texts, _]) = wanted.ask(out, &families, Other::Second)? else { return Ok(false) };
+    count(out, "total", texts)?;
+    Ok(true)
+}
+
+fn count(out: &mut impl Write, title: &str, texts: u64) -> io::Result<()> {
+    writeln!(out, "{title:<40} {texts:>10} texts, no difference")?;
+    out.flush()
+}
+
+/// What the arguments ask for.
+struct Wanted {
+    count: u64,
+    seed: u64,
+    corpus: Corpus,
+}
+
+impl Wanted {
+    /// COUNT SEED FOLDER, and what follows.
+    fn read(args: &[String]) -> io::Result<(Self, &[String])> {
+        let [count, seed, folder, behind @ ..] = args else {
+            return Err(Error::other(crate::modes::USAGE));
+        };
+        let number = |word: &String| word.parse::<u64>().map_err(Error::other);
+        let corpus = if folder == "-" { Corpus::default() } else { Corpus::read(Path::new(folder))? };
+        Ok((Wanted { count: number(count)?, seed: number(seed)?, corpus }, behind))
+    }
+
+    fn plan(&self) -> Plan<'_> {
+        Plan { count: self.count, seed: self.seed, corpus: &self.corpus, profile: Profile::Turso }
+    }
+
+    /// Says how many texts each family has, and gives their number under each profile; none after a difference, which is told.
+    fn ask(&self, out: &mut impl Write, families: &[Family], other: Other) -> io::Result<Option<[u64; 2]>> {
+        let (mut texts, seed) = ([0, 0], self.seed);
+        for (place, family) in families.iter().enumerate() {
+            let asked = Asked { family, place: place as u64, seed, other };
+            if let Some((index, told)) = asked.all()? {
+                writeln!(out, "a difference: text {index} of '{}', seed {seed}\n{told}", family.title())?;
+                return Ok(None);
+            }
+            count(out, &family.title(), family.count)?;
+            texts[usize::from(family.profile == Profile::Sqlite)] += family.count;
+        }
+        Ok(Some(texts))
+    }
+}
+
+/// Who is compared.
+#[derive(Clone, Copy)]
+enum Other<'a> {
+    /// A program, asked under the family's profile.
+    Program(&'a [String]),
+    /// The second statement under `turso`, which the published lexer has.
+    Second,
+}
+
+impl Other<'_> {
+    fn answers(self, mode: Mode, profile: Profile, records: &[u8]) -> io::Result<(Vec<u8>, ExitStatus)> {
+        let Other::Program(program) = self else {
+            let (mut answers, second) = (Vec::new(), Source::Second(Profile::Turso));
+            records::answer(records, &mut answers, |out, offset, text| mode.print(second, out, offset, text))?;
+            return Ok((answers, ExitStatus::default()));
+        };
+        ask(program, &mode.words(profile), records)
+    }
+
+    fn name(self) -> &'static str {
+        match self {
+            Other::Program(_) => "the program",
+            Other::Second => Source::Second(Profile::Turso).name(),
+        }
+    }
 }
 
 struct Asked<'a> {
     family: &'a Family<'a>,
     place: u64,
     seed: u64,
-    program: &'a [String],
+    other: Other<'a>,
 }
 
 /// A text that was answered otherwise: its number, its record and the two answers.
@@ -92,20 +169,17 @@ impl Asked<'_> {
 
     fn piece(&self, piece: u64) -> io::Result<Option<Difference>> {
         let from = piece * self.family.piece;
-        let mode = (self.family.mode)(piece);
-        let (mut records, mut expected, mut text) = (Vec::new(), Vec::new(), Vec::new());
+        let (mode, profile) = ((self.family.mode)(piece), self.family.profile);
+        let (mut asked, mut expected, mut text) = (Vec::new(), Vec::new(), Vec::new());
         let mut ends = vec![(0, 0)];
         for index in from..self.family.count.min(from + self.family.piece) {
             text.clear();
             let offset = (self.family.make)(index, &mut Random::new(self.seed, self.place, index), &mut text);
-            for number in [offset, text.len()] {
-                records.extend((number as u32).to_le_bytes());
-            }
-            records.extend(&text);
-            mode.print(&mut expected, offset, &text)?;
-            ends.push((records.len(), expected.len()));
+            records::push(&mut asked, offset, &text);
+            mode.print(Source::of(profile), &mut expected, offset, &text)?;
+            ends.push((asked.len(), expected.len()));
         }
-        let (answers, status) = ask(self.program, mode, &records)?;
+        let (answers, status) = self.other.answers(mode, profile, &asked)?;
         let difference = first_difference(&expected, &answers);
         if difference.is_none() && !status.success() {
             return Err(Error::other(format!("the program ended with {status}")));
@@ -114,16 +188,33 @@ impl Asked<'_> {
             let index = ends.partition_point(|&(_, end)| end <= place).min(ends.len() - 1) - 1;
             let ((record, start), (record_end, end)) = (ends[index], ends[index + 1]);
             let answers = [&expected[start..end], &answers[start.min(answers.len())..]];
-            (from + index as u64, tell(mode, &records[record..record_end], answers, place - start))
+            (from + index as u64, self.tell(mode, &asked[record..record_end], answers, place - start))
         }))
+    }
+
+    /// The mode, the record in hexadecimal and both answers; the other's up to its empty line.
+    fn tell(&self, mode: Mode, record: &[u8], [expected, answers]: [&[u8]; 2], place: usize) -> String {
+        let end = answers.windows(2).position(|two| two == b"\n\n").unwrap_or(answers.len());
+        let hex: String = record.iter().map(|byte| format!("{byte:02x}")).collect();
+        let [expected, answer] = [expected, &answers[..end]].map(|row| {
+            let from = if row.len() > SHOWN { place.saturating_sub(SHOWN / 2).min(row.len()) } else { 0 };
+            let shown = &row[from..row.len().min(from + SHOWN)];
+            String::from_utf8_lossy(shown).trim_end_matches('\n').to_string()
+        });
+        let profile = self.family.profile;
+        let (mode, source) = (mode.words(profile).join(" "), Source::of(profile).name());
+        format!(
+            "mode {mode}; the answers part at byte {place}\noffset, length and text: {hex}\n\
+             -- from {source}:\n{expected}\n-- {}:\n{answer}",
+            self.other.name()
+        )
     }
 }
 
-/// What the program writes when it is asked the records in this mode, and how it ends.
-fn ask(program: &[String], mode: Mode, records: &[u8]) -> io::Result<(Vec<u8>, ExitStatus)> {
+/// What the program writes when it is asked the records with these words behind its own, and how it ends.
+fn ask(program: &[String], words: &[String], records: &[u8]) -> io::Result<(Vec<u8>, ExitStatus)> {
     let (name, args) = program.split_first().ok_or_else(|| Error::other("no program is named"))?;
-    let mut child =
-        Command::new(name).args(args).args(mode.words()).stdin(Stdio::piped()).stdout(Stdio::piped()).spawn()?;
+    let mut child = Command::new(name).args(args).args(words).stdin(Stdio::piped()).stdout(Stdio::piped()).spawn()?;
     let (mut stdin, mut stdout) = (child.stdin.take().expect("piped"), child.stdout.take().expect("piped"));
     let mut answers = Vec::new();
     thread::scope(|scope| {
@@ -137,20 +228,4 @@ fn ask(program: &[String], mode: Mode, records: &[u8]) -> io::Result<(Vec<u8>, E
 /// The first place at which two rows of bytes part.
 fn first_difference(a: &[u8], b: &[u8]) -> Option<usize> {
     (a != b).then(|| a.iter().zip(b).take_while(|(x, y)| x == y).count())
-}
-
-/// The mode, the record in hexadecimal and both answers; the program's up to its empty line.
-fn tell(mode: Mode, record: &[u8], [expected, answers]: [&[u8]; 2], place: usize) -> String {
-    let end = answers.windows(2).position(|two| two == b"\n\n").unwrap_or(answers.len());
-    let hex: String = record.iter().map(|byte| format!("{byte:02x}")).collect();
-    let [expected, answer] = [expected, &answers[..end]].map(|row| {
-        let from = if row.len() > SHOWN { place.saturating_sub(SHOWN / 2).min(row.len()) } else { 0 };
-        let shown = &row[from..row.len().min(from + SHOWN)];
-        String::from_utf8_lossy(shown).trim_end_matches('\n').to_string()
-    });
-    let mode = mode.words().join(" ");
-    format!(
-        "mode {mode}; the answers part at byte {place}\noffset, length and text: {hex}\n\
-         -- from the published lexer:\n{expected}\n-- the program:\n{answer}"
-    )
 }

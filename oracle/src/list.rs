@@ -2,7 +2,7 @@
 
 use crate::kinds;
 use crate::token::TokenType::{TK_NONE, TK_SEMI};
-use crate::walk::{walk, Stop};
+use crate::walk::{walk, Source, Stop};
 use std::io;
 
 /// The numbers that the lexemes of the longest text can need: three for each byte.
@@ -12,12 +12,12 @@ pub const MOST: usize = 3 * (TOO_LONG - 1);
 pub const TOO_LONG: usize = 65_536;
 
 /// Writes kind, start and length of each legal lexeme from the offset on. Gives how it stopped and the number of records.
-pub fn list(numbers: &mut [u32], text: &[u8], offset: usize) -> io::Result<(Stop, usize)> {
+pub fn list(source: Source, numbers: &mut [u32], text: &[u8], offset: usize) -> io::Result<(Stop, usize)> {
     if text.len() >= TOO_LONG {
         return Ok((Stop::Refusal("TooLong", 0, 0, offset), 0));
     }
     let (mut records, mut full) = (0, None);
-    let stop = walk(text, offset, |kind, start, length| {
+    let stop = walk(source, text, offset, |kind, start, length| {
         match numbers.get_mut(3 * records..3 * records + 3) {
             Some(free) => {
                 free.copy_from_slice(&[kinds::number(kind), start as u32, length as u32]);
@@ -43,9 +43,9 @@ pub enum Statement {
 }
 
 /// The statement at the offset. A refusal keeps the offset that was given.
-pub fn cut(text: &[u8], offset: usize) -> io::Result<Statement> {
+pub fn cut(source: Source, text: &[u8], offset: usize) -> io::Result<Statement> {
     let (mut semi, mut any) = (None, false);
-    let stop = walk(text, offset, |kind, start, length| {
+    let stop = walk(source, text, offset, |kind, start, length| {
         if kind == TK_SEMI && semi.is_none() {
             semi = Some((any, start + length));
         }

@@ -1,4 +1,5 @@
-//! The published lexer of turso_parser 0.8.3, unchanged, answering on standard output.
+//! The published lexer of turso_parser 0.8.3, unchanged, answering on standard output; and Next stated a second time, for the profile
+//! that it does not have.
 
 mod answers;
 mod compare;
@@ -6,12 +7,14 @@ mod kinds;
 mod list;
 mod modes;
 mod records;
+mod second;
 mod texts;
 mod walk;
 
 use modes::Mode;
 use std::io::{self, BufWriter, Write};
 use std::process::ExitCode;
+use walk::Source;
 
 // The published files are included, not named by #[path], so that rustfmt leaves them alone.
 
@@ -41,11 +44,17 @@ type Result<T> = std::result::Result<T, error::Error>;
 fn main() -> io::Result<ExitCode> {
     let mut out = BufWriter::with_capacity(1 << 16, io::stdout().lock());
     let words: Vec<_> = std::env::args().skip(1).collect();
+    let input = || io::stdin().lock();
     let well = match (words.first().map_or("", String::as_str), Mode::read(&words)) {
-        (_, Some(mode)) => answer(&mut out, |out, offset, text| mode.print(out, offset, text))?,
-        ("replay", _) => answer(&mut out, modes::print_replay)?,
+        (_, Some((mode, profile))) => {
+            records::answer(input(), &mut out, |out, offset, text| mode.print(Source::of(profile), out, offset, text))?
+        }
+        ("replay", _) => records::answer(input(), &mut out, modes::print_replay)?,
         ("answers", _) => answers::print(&mut out).map(|()| true)?,
         ("compare", _) => compare::compare(&mut out, &words[1..])?,
+        ("second", _) => compare::second(&mut out, &words[1..])?,
+        ("tokenizer", _) => compare::tokenizer(&mut out, &words[1..])?,
+        ("tokens", _) => compare::tokens(input(), &mut out, &words[1..])?,
         _ => {
             eprintln!("{}", modes::USAGE);
             return Ok(ExitCode::from(2));
@@ -53,19 +62,4 @@ fn main() -> io::Result<ExitCode> {
     };
     out.flush()?;
     Ok(ExitCode::from(u8::from(!well)))
-}
-
-/// Answers each record of standard input; false after a record that is too long or cut off.
-fn answer<W: Write>(out: &mut W, mut print: impl FnMut(&mut W, usize, &[u8]) -> io::Result<()>) -> io::Result<bool> {
-    let mut records = records::Records::new(io::stdin().lock());
-    loop {
-        match records.read()? {
-            records::Read::Record(offset, text) => print(out, offset, text)?,
-            records::Read::Over => return Ok(true),
-            records::Read::Bad => {
-                writeln!(out, "BADRECORD")?;
-                return Ok(false);
-            }
-        }
-    }
 }

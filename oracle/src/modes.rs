@@ -2,12 +2,15 @@
 
 use crate::lexer::{is_quotable_keyword, word_kind};
 use crate::list::{self, Statement};
+use crate::second::Profile;
 use crate::token::TokenType::{self, TK_FLOAT, TK_INTEGER};
-use crate::walk::{walk, Stop};
+use crate::walk::{walk, Source, Stop};
 use std::io::{self, Write};
 
-pub const USAGE: &str =
-    "modes: next, sums, list N (0 to 196605), cut, word, replay (records in, answers out); answers; compare";
+pub const USAGE: &str = "\
+modes: next [PROFILE], sums [PROFILE], list N [PROFILE] (N 0 to 196605), cut [PROFILE], word, replay (records in, answers out); answers;
+compare COUNT SEED FOLDER PROGRAM [ARG..]; second COUNT SEED FOLDER; tokenizer COUNT SEED FOLDER PROGRAM [ARG..];
+tokens PROGRAM [ARG..] (records in). PROFILE is turso, also where none is named, or sqlite; FOLDER is - for none";
 
 #[derive(Clone, Copy)]
 pub enum Mode {
@@ -21,36 +24,47 @@ pub enum Mode {
 }
 
 impl Mode {
-    /// From the words that name it, as a program's arguments.
-    pub fn read(words: &[String]) -> Option<Self> {
-        let words: Vec<_> = words.iter().map(String::as_str).collect();
-        match words[..] {
-            ["next"] => Some(Mode::Next),
-            ["sums"] => Some(Mode::Sums),
-            ["list", n] => n.parse().ok().filter(|&n| n <= list::MOST).map(Mode::List),
-            ["cut"] => Some(Mode::Cut),
-            ["word"] => Some(Mode::Word),
-            _ => None,
+    /// From the words that name it and the profile, as a program's arguments.
+    pub fn read(words: &[String]) -> Option<(Self, Profile)> {
+        let mut words: Vec<_> = words.iter().map(String::as_str).collect();
+        if words == ["word"] {
+            return Some((Mode::Word, Profile::Turso));
         }
+        let profile = words.last().and_then(|word| Profile::read(word));
+        if profile.is_some() {
+            words.pop();
+        }
+        let mode = match words[..] {
+            ["next"] => Mode::Next,
+            ["sums"] => Mode::Sums,
+            ["list", n] => n.parse().ok().filter(|&n| n <= list::MOST).map(Mode::List)?,
+            ["cut"] => Mode::Cut,
+            _ => return None,
+        };
+        Some((mode, profile.unwrap_or(Profile::Turso)))
     }
 
-    /// The words that name it.
-    pub fn words(self) -> Vec<String> {
-        match self {
+    /// The words that name it. Of the profile only `sqlite`, so that a program without profiles can be asked too.
+    pub fn words(self, profile: Profile) -> Vec<String> {
+        let mut words = match self {
             Mode::Next => vec!["next".to_string()],
             Mode::Sums => vec!["sums".to_string()],
             Mode::List(n) => vec!["list".to_string(), n.to_string()],
             Mode::Cut => vec!["cut".to_string()],
             Mode::Word => vec!["word".to_string()],
+        };
+        if profile == Profile::Sqlite {
+            words.push("sqlite".to_string());
         }
+        words
     }
 
-    pub fn print(self, out: &mut impl Write, offset: usize, text: &[u8]) -> io::Result<()> {
+    pub fn print(self, source: Source, out: &mut impl Write, offset: usize, text: &[u8]) -> io::Result<()> {
         match self {
-            Mode::Next => print_walk(out, offset, text, |_, _| String::new()),
-            Mode::Sums => print_walk(out, offset, text, sums),
-            Mode::List(n) => print_list(out, n, offset, text),
-            Mode::Cut => print_cut(out, offset, text),
+            Mode::Next => print_walk(source, out, offset, text, |_, _| String::new()),
+            Mode::Sums => print_walk(source, out, offset, text, sums),
+            Mode::List(n) => print_list(source, out, n, offset, text),
+            Mode::Cut => print_cut(source, out, offset, text),
             Mode::Word => print_word(out, text),
         }
     }
@@ -58,24 +72,26 @@ impl Mode {
 
 /// What the program `replay` prints of a record: Next with sums, so by a reader, List with too few, just enough and more numbers, and the cut.
 pub fn print_replay(out: &mut impl Write, offset: usize, text: &[u8]) -> io::Result<()> {
-    let (_, records) = list::list(&mut vec![0; list::MOST], text, offset)?;
-    Mode::Sums.print(out, offset, text)?;
-    Mode::Sums.print(out, offset, text)?;
+    let source = Source::Published;
+    let (_, records) = list::list(source, &mut vec![0; list::MOST], text, offset)?;
+    Mode::Sums.print(source, out, offset, text)?;
+    Mode::Sums.print(source, out, offset, text)?;
     for n in (0..8).chain([(3 * records).saturating_sub(1), 3 * records, 3 * records + 4]) {
-        Mode::List(n).print(out, offset, text)?;
+        Mode::List(n).print(source, out, offset, text)?;
     }
-    Mode::Cut.print(out, offset, text)
+    Mode::Cut.print(source, out, offset, text)
 }
 
 /// A line for each token, with what `more` says of its kind and bytes, and a last line for how the walk stopped.
 fn print_walk(
+    source: Source,
     out: &mut impl Write,
     offset: usize,
     text: &[u8],
     more: impl Fn(TokenType, &[u8]) -> String,
 ) -> io::Result<()> {
     let mut count = 0;
-    let stop = walk(text, offset, |kind, start, length| {
+    let stop = walk(source, text, offset, |kind, start, length| {
         count += 1;
         writeln!(out, "{kind:?}\t{start}\t{length}{}", more(kind, &text[start..start + length]))
     })?;
@@ -97,10 +113,10 @@ fn sums(kind: TokenType, bytes: &[u8]) -> String {
 }
 
 /// The numbers lent as they are afterwards, then how List stopped and the number of records.
-fn print_list(out: &mut impl Write, n: usize, offset: usize, text: &[u8]) -> io::Result<()> {
+fn print_list(source: Source, out: &mut impl Write, n: usize, offset: usize, text: &[u8]) -> io::Result<()> {
     // No record has this number in it, so that the numbers left alone are seen.
     let mut numbers = vec![u32::MAX; n];
-    let (stop, records) = list::list(&mut numbers, text, offset)?;
+    let (stop, records) = list::list(source, &mut numbers, text, offset)?;
     for (place, number) in numbers.iter().enumerate() {
         write!(out, "{}{number}", if place > 0 { " " } else { "" })?;
     }
@@ -112,8 +128,8 @@ fn print_list(out: &mut impl Write, n: usize, offset: usize, text: &[u8]) -> io:
     }
 }
 
-fn print_cut(out: &mut impl Write, offset: usize, text: &[u8]) -> io::Result<()> {
-    match list::cut(text, offset)? {
+fn print_cut(source: Source, out: &mut impl Write, offset: usize, text: &[u8]) -> io::Result<()> {
+    match list::cut(source, text, offset)? {
         Statement::Cut(start, length, any, end) => writeln!(out, "CUT\t{start}\t{length}\t{}\t{end}\n", u8::from(any)),
         Statement::Open(start, length, end) => writeln!(out, "OPEN\t{start}\t{length}\t{end}\n"),
         Statement::End(end) => writeln!(out, "END\t{end}\t0\t{end}\n"),

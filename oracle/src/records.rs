@@ -1,6 +1,6 @@
-//! The records of standard input: offset, length (4 bytes each, little-endian), then the text.
+//! Records, of standard input or made here: offset, length (4 bytes each, little-endian), then the text.
 
-use std::io::{self, ErrorKind};
+use std::io::{self, ErrorKind, Write};
 
 /// The longest text of a record: one byte more than List takes.
 pub const LONGEST_RECORD: usize = 65_536;
@@ -42,6 +42,33 @@ impl<R: io::Read> Records<R> {
         }
         Ok(Read::Record(offset, &self.text))
     }
+}
+
+/// Answers each record of the input; false after a record that is too long or cut off.
+pub fn answer<R: io::Read, W: Write>(
+    input: R,
+    out: &mut W,
+    mut print: impl FnMut(&mut W, usize, &[u8]) -> io::Result<()>,
+) -> io::Result<bool> {
+    let mut records = Records::new(input);
+    loop {
+        match records.read()? {
+            Read::Record(offset, text) => print(out, offset, text)?,
+            Read::Over => return Ok(true),
+            Read::Bad => {
+                writeln!(out, "BADRECORD")?;
+                return Ok(false);
+            }
+        }
+    }
+}
+
+/// Puts a record behind others.
+pub fn push(records: &mut Vec<u8>, offset: usize, text: &[u8]) {
+    for number in [offset, text.len()] {
+        records.extend((number as u32).to_le_bytes());
+    }
+    records.extend(text);
 }
 
 fn number(bytes: &[u8]) -> usize {

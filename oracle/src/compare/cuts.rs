@@ -6,7 +6,7 @@ use super::random::Random;
 use super::{lexemes, makers, statements};
 use crate::modes::Mode;
 
-const CUT: fn(u64) -> Mode = |_| Mode::Cut;
+pub const CUT: fn(u64) -> Mode = |_| Mode::Cut;
 
 const PLAIN: &[&[u8]] =
     &[b"a", b"1", b"select ", b"''", b"x'0f'", b"?1", b",", b"=", b"!=", b"$a", b"#a", b"[", b"1.5"];

@@ -4,6 +4,7 @@ use super::alphabets;
 use super::corpus::Corpus;
 use super::random::Random;
 use crate::modes::Mode;
+use crate::second::Profile;
 
 /// Makes the text with this number in an empty row and gives the offset.
 type Make<'a> = Box<dyn Fn(u64, &mut Random, &mut Vec<u8>) -> usize + Sync + 'a>;
@@ -15,15 +16,17 @@ pub struct Family<'a> {
     pub piece: u64,
     /// How the texts of the piece with this number are asked.
     pub mode: fn(u64) -> Mode,
+    pub profile: Profile,
     pub make: Make<'a>,
 }
 
-/// What the families of a mode are made from: about how many texts, the seed and real SQL.
+/// What the families of a mode are made from: about how many texts, the seed, real SQL, and the profile that is asked for.
 #[derive(Clone, Copy)]
 pub struct Plan<'a> {
     pub count: u64,
     pub seed: u64,
     pub corpus: &'a Corpus,
+    pub profile: Profile,
 }
 
 /// Enough that starting the program costs little.
@@ -39,7 +42,19 @@ impl<'a> Family<'a> {
         count: u64,
         make: impl Fn(u64, &mut Random, &mut Vec<u8>) -> usize + Sync + 'a,
     ) -> Self {
-        Family { name: name.into(), count, piece: PIECE, mode, make: Box::new(make) }
+        Family { name: name.into(), count, piece: PIECE, mode, profile: Profile::Turso, make: Box::new(make) }
+    }
+
+    pub fn under(self, profile: Profile) -> Self {
+        Family { profile, ..self }
+    }
+
+    /// The name, with the profile if it is not document 01's.
+    pub fn title(&self) -> String {
+        match self.profile {
+            Profile::Turso => self.name.clone(),
+            Profile::Sqlite => format!("sqlite: {}", self.name),
+        }
     }
 
     pub fn in_pieces_of(self, piece: u64) -> Self {

@@ -6,15 +6,15 @@ use super::random::Random;
 use super::{lexemes, makers, statements};
 use crate::list::MOST;
 use crate::modes::Mode;
-use crate::walk::walk;
+use crate::walk::{walk, Source};
 
 /// Pieces so small that lists of many lengths are had.
-const PIECE: u64 = 1_000;
+pub const PIECE: u64 = 1_000;
 
 pub fn families(plan: Plan) -> Vec<Family> {
     let share = plan.count / 8;
     vec![
-        fitted(4 * share),
+        fitted(Source::of(plan.profile), 4 * share),
         family("lexemes", share, |r, text| {
             makers::several_lexemes(r, text);
             makers::offset(r, text.len())
@@ -24,7 +24,7 @@ pub fn families(plan: Plan) -> Vec<Family> {
             r.below(text.len() + 2)
         }),
         statements(share),
-        every(plan, share),
+        every("list: small", b"a;1 '!", share, plan.seed),
         whole(8 + plan.count / 400_000),
         Family::new("list: longest", small, 48 + plan.count / 20_000, makers::longest).in_pieces_of(3),
     ]
@@ -44,7 +44,7 @@ fn room(piece: u64) -> usize {
     [turn % 8, 8 + turn % 57][(piece % 2) as usize]
 }
 
-fn small(piece: u64) -> Mode {
+pub fn small(piece: u64) -> Mode {
     Mode::List(room(piece))
 }
 
@@ -54,7 +54,7 @@ fn family<'a>(name: &str, count: u64, make: impl Fn(&mut Random, &mut Vec<u8>) -
 
 /// Texts with as many lexemes as the list has whole records, or one more, or about so many: with 0, 1 or 2 numbers over, the
 /// list is exact or ample by these, or a record, two numbers or one number short.
-fn fitted<'a>(count: u64) -> Family<'a> {
+fn fitted<'a>(source: Source, count: u64) -> Family<'a> {
     Family::new("list: fitted", small, count, move |index, r, text| {
         let records = room(index / PIECE) / 3;
         let wanted = match r.below(8) {
@@ -67,7 +67,7 @@ fn fitted<'a>(count: u64) -> Family<'a> {
             makers::several_lexemes(r, text);
         }
         let from = text.len();
-        grow(r, text, from, wanted);
+        grow(source, r, text, from, wanted);
         // A refusal comes before a full list, a lexeme doesn't.
         if r.once_in(4) {
             text.extend(r.pick::<[u8]>(&[b"'", b"1a", b"!", b"\x00", b"$", b"0x", b" 1e+", b" 1.5x", b" x'1'"]));
@@ -78,10 +78,10 @@ fn fitted<'a>(count: u64) -> Family<'a> {
 }
 
 /// Lexemes behind the text until so many can be passed from there; what would be refused, and what is too much, is taken off.
-fn grow(r: &mut Random, text: &mut Vec<u8>, from: usize, wanted: usize) {
+fn grow(source: Source, r: &mut Random, text: &mut Vec<u8>, from: usize, wanted: usize) {
     for _ in 0..8 {
         let mut ends = vec![from];
-        walk(text, from, |_, start, length| {
+        walk(source, text, from, |_, start, length| {
             ends.push(start + length);
             Ok(())
         })
@@ -109,9 +109,9 @@ fn statements<'a>(count: u64) -> Family<'a> {
 }
 
 /// Each text over a small alphabet with each list of up to 12 numbers: a piece for each list.
-fn every(plan: Plan, most: u64) -> Family {
+pub fn every<'a>(name: &str, alphabet: &'a [u8], most: u64, seed: u64) -> Family<'a> {
     let mode = |piece| Mode::List(piece as usize);
-    let texts = Family::every("list: small", mode, b"a;1 '!", most / 13, plan.seed, false);
+    let texts = Family::every(name, mode, alphabet, most / 13, seed, false);
     let count = texts.count;
     let make = move |index, r: &mut Random, text: &mut Vec<u8>| (texts.make)(index % count, r, text);
     Family::new(texts.name, mode, 13 * count, make).in_pieces_of(count)

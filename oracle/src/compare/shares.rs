@@ -1,21 +1,39 @@
 //! How the texts are divided among the modes and families.
 
 use super::families::{Family, Plan};
-use super::{cuts, lists, walks, words};
+use super::{cuts, lists, near, walks, words};
+use crate::second::Profile;
 
-/// About `count` texts. Half, and runs of digits besides, are for Next, on which the other calls stand; List and the cut add
-/// little code of their own, and have a fifth each; a tenth is for single words, which the texts of the others are full of too.
+/// About `count` texts under `turso`. Half, and runs of digits besides, are for Next, on which the other calls stand; List and the cut
+/// add little code of their own, and have a fifth each; a tenth is for single words, which the texts of the others are full of too.
+/// Besides, about a sixth as many under `sqlite`: a tenth by the same rules, the rest rich in what it reads otherwise.
 pub fn all(plan: Plan) -> Vec<Family> {
-    let tenths = |n: u64| Plan { count: plan.count / 10 * n, ..plan };
-    let mut families = walks::families(tenths(5));
-    families.extend(lists::families(tenths(2)));
-    families.extend(cuts::families(tenths(2)));
-    families.extend(words::families(tenths(1)));
+    let sqlite = Plan { count: plan.count / 10, profile: Profile::Sqlite, ..plan };
+    let mut families: Vec<_> = made(plan).collect();
+    families.extend(words::families(tenths(plan, 1)));
+    families.extend(made(sqlite));
+    families.extend(near::families(sqlite).into_iter().map(|family| family.under(Profile::Sqlite)));
     // A text depends on its family's place in this list. Real SQL is last, so that the others are the same without it.
     if plan.corpus.len() > 0 {
-        families.extend(walks::real(tenths(5)));
-        families.push(lists::real(tenths(2)));
-        families.push(cuts::real(tenths(2)));
+        families.extend(real(plan));
+        families.extend(real(sqlite));
     }
     families
+}
+
+fn tenths(plan: Plan, n: u64) -> Plan {
+    Plan { count: plan.count / 10 * n, ..plan }
+}
+
+fn made(plan: Plan) -> impl Iterator<Item = Family> {
+    let mut families = walks::families(tenths(plan, 5));
+    families.extend(lists::families(tenths(plan, 2)));
+    families.extend(cuts::families(tenths(plan, 2)));
+    families.into_iter().map(move |family| family.under(plan.profile))
+}
+
+fn real(plan: Plan) -> impl Iterator<Item = Family> {
+    let [whole, parts, damaged] = walks::real(tenths(plan, 5));
+    let families = [whole, parts, damaged, lists::real(tenths(plan, 2)), cuts::real(tenths(plan, 2))];
+    families.into_iter().map(move |family| family.under(plan.profile))
 }

@@ -8,7 +8,7 @@ use super::random::Random;
 use super::{lexemes, makers, statements};
 use crate::modes::Mode;
 
-const NEXT: fn(u64) -> Mode = |piece| if piece % 2 == 0 { Mode::Sums } else { Mode::Next };
+pub const NEXT: fn(u64) -> Mode = |piece| if piece % 2 == 0 { Mode::Sums } else { Mode::Next };
 
 pub fn families(plan: Plan) -> Vec<Family> {
     let share = plan.count / 16;
