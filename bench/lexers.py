@@ -119,11 +119,12 @@ def of_sqlite(machine):
 
 
 LEXERS = {  # the symbol of List, what is linked, flags of the measuring program
-    "List": ("sqllex_list", of_list, []),
+    "List": ("sqllex_list", of_list, ["-DPROFILE=0"]),
+    "List:sqlite": ("sqllex_list", of_list, ["-DPROFILE=1"]),  # under the other profile
     "Rust": ("rust_list", of_rust, []),
     "Rust+": ("rust_list", of_rust_with_real_memchr, []),
     "SQLite": ("sqlite_list", of_sqlite, []),
-    "calls": ("sqllex_list", of_list, ["-DALL_CALLS"]),
+    "calls": ("sqllex_list", of_list, ["-DPROFILE=0", "-DALL_CALLS"]),
     "nothing": ("nothing", lambda machine: ["-Wl,--defsym=nothing=0"], []),  # what the program has without a lexer
 }
 

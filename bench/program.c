@@ -13,7 +13,13 @@
 enum { TEXT = 65535, NUMBERS = 3 * TEXT, LANE = 65536 };
 
 typedef uint64_t list_function(const uint8_t *text, uint64_t length, uint32_t *list, uint64_t numbers);
+#ifdef PROFILE
+uint64_t LIST(const uint8_t *text, uint64_t length, uint32_t profile, uint32_t *list, uint64_t numbers);
+static uint64_t under_profile(const uint8_t *t, uint64_t n, uint32_t *l, uint64_t c) { return LIST(t, n, PROFILE, l, c); }
+#else
 list_function LIST;
+#define under_profile LIST
+#endif
 
 static uint8_t text[TEXT + 1]; /* SQLite wants a 0 behind the text */
 static uint64_t length;
@@ -61,16 +67,16 @@ static unsigned list_stack(list_function *call)
 
 #ifdef ALL_CALLS
 enum { CUT = 101 };
-typedef uint32_t place_function(const uint8_t *text, uint64_t length, uint64_t offset, uint64_t *answer);
+typedef uint32_t place_function(const uint8_t *text, uint64_t length, uint64_t offset, uint32_t profile, uint64_t *answer);
 place_function sqllex_next, sqllex_cut;
 
 static uint64_t places[TEXT + 1], place_count, answer[6];
-static uint32_t no_call(const uint8_t *t, uint64_t n, uint64_t at, uint64_t *a) { return 0; }
+static uint32_t no_call(const uint8_t *t, uint64_t n, uint64_t at, uint32_t p, uint64_t *a) { return 0; }
 static place_function *volatile place_call;
 static void call_at_places(void)
 {
     for (uint64_t i = 0; i < place_count; i++)
-        place_call(text, length, places[i], answer);
+        place_call(text, length, places[i], PROFILE, answer);
 }
 
 static unsigned place_stack(place_function *call)
@@ -83,13 +89,13 @@ static unsigned place_stack(place_function *call)
 
 static void other_stacks(void)
 {
-    uint64_t records = LIST(text, length, list, NUMBERS);
+    uint64_t records = under_profile(text, length, list, NUMBERS);
     for (place_count = 0; place_count < records; place_count++)
         places[place_count] = list[3 * place_count + 1];
     places[place_count++] = length;
     printf("sqllex_next %u\n", place_stack(sqllex_next)); /* at each token and at the end */
     place_count = 0;
-    for (uint64_t at = 0; places[place_count++] = at, sqllex_cut(text, length, at, answer) == CUT;)
+    for (uint64_t at = 0; places[place_count++] = at, sqllex_cut(text, length, at, PROFILE, answer) == CUT;)
         at = answer[3];
     printf("sqllex_cut %u\n", place_stack(sqllex_cut)); /* at each statement */
 }
@@ -104,15 +110,15 @@ int main(int argc, char **argv)
         return 2;
     length = fread(text, 1, TEXT, file);
     if (!strcmp(argv[2], "stack")) {
-        printf(NAME(LIST) " %u\n", list_stack(LIST));
+        printf(NAME(LIST) " %u\n", list_stack(under_profile));
         other_stacks();
     } else if (!strcmp(argv[2], "dump")) {
-        uint64_t records = LIST(text, length, list, NUMBERS);
+        uint64_t records = under_profile(text, length, list, NUMBERS);
         for (uint64_t i = 0; i < records; i++)
             printf("%u %u %u\n", (unsigned)list[3 * i], (unsigned)list[3 * i + 1], (unsigned)list[3 * i + 2]);
     } else {
         for (int i = atoi(argv[2]); i > 0; i--)
-            LIST(text, length, list, NUMBERS);
+            under_profile(text, length, list, NUMBERS);
     }
     return 0;
 }

@@ -47,7 +47,9 @@ def same_lists():
     for name in KINDS_OF_TEXT:
         if with_names(records(X86, "List", name), ours) != with_names(records(X86, "Rust", name), rusts):
             raise SystemExit(f"bench: FAIL: List and the Rust wrote different records of the text {name}")
-    print(f"List and the Rust wrote the same records of {len(KINDS_OF_TEXT)} texts: kinds by name, starts, lengths")
+        if records(X86, "List:sqlite", name) != records(X86, "List", name):
+            raise SystemExit(f"bench: FAIL: List wrote different records of the text {name} under its two profiles, which read it alike")
+    print(f"List, under both profiles, and the Rust wrote the same records of {len(KINDS_OF_TEXT)} texts: kinds by name, starts, lengths")
 
 
 def can_build(machine, lexer):
@@ -72,13 +74,13 @@ def present(machine, lexers):
 
 def instructions(machine, lexers):
     lexers = present(machine, lexers)
-    print(f"{'text':12}{'records':>8}" + "".join(f"{lexer:>10}" for lexer in lexers))
+    print(f"{'text':12}{'records':>8}" + "".join(f"{lexer:>12}" for lexer in lexers))
     for name in KINDS_OF_TEXT:
         numbers = {lexer: len(records(machine, lexer, name)) for lexer in lexers}
         for lexer in lexers:
             if machine is M4 and can_build(X86, lexer) and records(M4, lexer, name) != records(X86, lexer, name):
                 raise SystemExit(f"bench: FAIL: records of the text {name} differ between the two machines")
-        a_byte = "".join(f"{total(machine, lexer, name) / length(name):10.2f}" for lexer in lexers)
+        a_byte = "".join(f"{total(machine, lexer, name) / length(name):12.2f}" for lexer in lexers)
         others = [f"{lexer}: {n:,} records" for lexer, n in numbers.items() if n != numbers[lexers[0]]]
         print(f"{name:12}{numbers[lexers[0]]:8,}{a_byte}  {'; '.join(others)}".rstrip())
 
