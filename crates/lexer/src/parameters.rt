@@ -22,7 +22,8 @@ pub(crate) fn eat_numbered_var(text: &[u8], start: Cursor) -> Lexed
 }
 
 // The name of a parameter, behind its `$`, `@` or `:`: identifier bytes, and `::` pairs anywhere. Here no identifier byte has come yet;
-// without one it is refused.
+// without one it is refused. A name is read the same way under each profile, so that these three functions take none, and promise the
+// answer under every profile that leads to where they begin.
 pub(crate) fn eat_named_var(text: &[u8], start: Cursor, at: Cursor) -> Lexed
     requires { ⌜ start .at ≤ at .at ⌝ }
     ensures { λ r. ⌜ ((p : Profile) → ReadsUnder p (now (text .entry)) (start .at) (at .at) (behind "$") → LexesUnder p (now (text .entry)) (start .at) r) ⌝ }

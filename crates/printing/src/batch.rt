@@ -26,7 +26,8 @@ pub enum Mode {
     Replay,
 }
 
-// Answers each record of standard input, as the profile has it; a word's lookup has none. One that is too long or cut off, or cannot be read, prints BADRECORD and is the last.
+// Answers each record of standard input under the profile; a word's lookup has none. One that is too long or cut off, or cannot be read,
+// prints BADRECORD and is the last.
 pub fn print_records(mode: Mode, profile: Profile) {
     let names = all_names();
     // `Replay` lends four more than a list fills.

@@ -10,7 +10,8 @@ use rows::out::filled;
 use rows::out::flush;
 use rows::out::put;
 
-// A line for each token under the profile Turso, then how it ended. More than 65,535 bytes are refused as TooLong; of input that cannot be read nothing is printed.
+// A line for each token under the profile Turso, then how it ended. More than 65,535 bytes are refused as TooLong; of input that cannot be
+// read nothing is printed.
 pub fn print_text() {
     let names = all_names();
     // It holds one byte more than the longest text, which is enough to know that a text is too long.

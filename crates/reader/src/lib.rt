@@ -1,4 +1,5 @@
-// A reader that carries its text and its profile. Each call takes it apart and asks the by-value core; what moves hands the moved reader back.
+// A reader that carries its text and its profile. Each call takes it apart and asks the by-value core; what moves hands the moved reader
+// back.
 use grammar::profile::Profile;
 use lexer::cursor::Cursor;
 use lexer::cursor::Peek;

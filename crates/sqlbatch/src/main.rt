@@ -1,4 +1,5 @@
-// sqlbatch MODE [PROFILE]: what `next`, also with sums, a list of N numbers, the cut or the word's lookup answers for each record of standard input.
+// sqlbatch MODE [PROFILE]: what `next`, also with sums, a list of N numbers, the cut or the word's lookup answers for each record of
+// standard input.
 mod arguments;
 
 use crate::arguments::Asked;
