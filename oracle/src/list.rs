@@ -1,7 +1,9 @@
 //! List and the cut into statements, said plainly over the walk. Both go on to where the walk stops, and keep what came first.
 
 use crate::kinds;
-use crate::token::TokenType::{TK_NONE, TK_SEMI};
+use crate::token::TokenType::{
+    self, TK_CREATE, TK_END, TK_EXPLAIN, TK_NONE, TK_PLAN, TK_QUERY, TK_SEMI, TK_TEMP, TK_TRIGGER,
+};
 use crate::walk::{walk, Source, Stop};
 use std::io;
 
@@ -32,9 +34,9 @@ pub fn list(source: Source, numbers: &mut [u32], text: &[u8], offset: usize) -> 
 }
 
 pub enum Statement {
-    /// Up to and with the first TK_SEMI: start, length, whether a token but TK_NONE came before it, offset.
+    /// Up to and with the TK_SEMI that ends it: start, length, whether a token but TK_NONE came before that, offset.
     Cut(usize, usize, bool, usize),
-    /// No TK_SEMI, and a token but TK_NONE: start, length, offset.
+    /// No TK_SEMI ends it, and it has a token but TK_NONE: start, length, offset.
     Open(usize, usize, usize),
     /// Blanks and comments alone, or nothing: the text's length.
     End(usize),
@@ -44,18 +46,42 @@ pub enum Statement {
 
 /// The statement at the offset. A refusal keeps the offset that was given.
 pub fn cut(source: Source, text: &[u8], offset: usize) -> io::Result<Statement> {
-    let (mut semi, mut any) = (None, false);
+    cut_by(ends, source, text, offset)
+}
+
+/// The same with another rule for which semicolon ends a statement, by the kinds of its tokens before, TK_NONE left out.
+pub fn cut_by(
+    ends: impl Fn(&[TokenType]) -> bool,
+    source: Source,
+    text: &[u8],
+    offset: usize,
+) -> io::Result<Statement> {
+    let (mut semi, mut kinds) = (None, Vec::new());
     let stop = walk(source, text, offset, |kind, start, length| {
-        if kind == TK_SEMI && semi.is_none() {
-            semi = Some((any, start + length));
+        if kind == TK_SEMI && semi.is_none() && ends(&kinds) {
+            semi = Some((!kinds.is_empty(), start + length));
         }
-        any |= kind != TK_NONE;
+        if kind != TK_NONE {
+            kinds.push(kind);
+        }
         Ok(())
     })?;
     Ok(match (semi, stop) {
         (Some((before, end)), _) => Statement::Cut(offset, end - offset, before, end),
         (None, Stop::Refusal(name, start, length, _)) => Statement::Refusal(name, start, length, offset),
-        (None, Stop::End(end)) if any => Statement::Open(offset, end - offset, end),
+        (None, Stop::End(end)) if !kinds.is_empty() => Statement::Open(offset, end - offset, end),
         (None, Stop::End(end)) => Statement::End(end),
     })
+}
+
+/// Request 3: 'A statement whose first tokens other than TK_NONE are CREATE, an optional TEMP or TEMPORARY, then TRIGGER, all optionally
+/// after EXPLAIN or EXPLAIN QUERY PLAN, ends only at a semicolon that directly follows END which directly follows a semicolon'. All others
+/// end at any.
+pub fn ends(kinds: &[TokenType]) -> bool {
+    let behind = match kinds {
+        [TK_EXPLAIN, TK_QUERY, TK_PLAN, behind @ ..] | [TK_EXPLAIN, behind @ ..] => behind,
+        _ => kinds,
+    };
+    let trigger = matches!(behind, [TK_CREATE, TK_TRIGGER, ..] | [TK_CREATE, TK_TEMP, TK_TRIGGER, ..]);
+    !trigger || kinds.ends_with(&[TK_SEMI, TK_END])
 }

@@ -2,8 +2,8 @@
 use Prim.Native.Nat.{ℕ, _-_, _≤_}
 use native.Mathlib.Omega.{arith}
 use mathlib.Core.Path.{_≡_, refl, sym, _∙_, ap, subst}
-use mathlib.Core.Bool.{Bool, true, false, _||_}
-use mathlib.Core.List.{List, [], _∷_, _++_}
+use mathlib.Core.Bool.{Bool, true, false, _||_, true≢false}
+use mathlib.Core.List.{List, [], _∷_, _++_, append-assoc, append-nil}
 use mathlib.Core.Logic.{⊎-elim}
 use types.Run.{OneOf}
 use denote.Enum.Declared.{tagOf}
@@ -11,6 +11,11 @@ use lib.Dec.{T, eqb, eqb→eq}
 use lib.ListN.{length}
 use Rattle.keywords.specs.Kinds.{kind}
 use Rattle.keywords.proofs.Logic.{split}
+use Rattle.triggers.specs.declared.seen.Seen.{Seen}
+use Rattle.triggers.specs.declared.seen.Seen.the-variants.{Nothing}
+use Rattle.triggers.specs.Triggers.{counted}
+use Rattle.triggers.specs.Seen.{Tells, Follows, SaysEnd}
+use Rattle.triggers.proofs.Theorems.{such-tells}
 use Rattle.grammar.specs.Classes.{rules}
 use Rattle.grammar.specs.Answers.{Answer, token, end, refusal}
 use Rattle.grammar.specs.Longest.{Source, Next}
@@ -24,7 +29,7 @@ use Rattle.lexer.proofs.lexed.Lexed as Lexed-is
 use Rattle.lists.specs.declared.cut.Statement.{Statement}
 use Rattle.lists.specs.declared.cut.Statement.the-variants.{Cut, Refused}
 use Rattle.lists.specs.Walk.{Legal, tokenOf, Passes}
-use Rattle.lists.specs.Cuts.{CutAnswer, NoSemi, notNone, someNotNone, cutAnswer, Cutting, valuesOf, Cuts}
+use Rattle.lists.specs.Cuts.{CutAnswer, kindsOf, Within, notNone, someNotNone, cutAnswer, Cutting, valuesOf, Cuts}
 use Rattle.lists.proofs.WalkLaws.{legal, token-passes, end-no-token, refusal-no-token, passes-ahead}
 
 pub not-none : (k : ℕ) (b : Bool) → (k ≡ kind "TK_NONE" → ⊥) → true ≡ notNone k || b
@@ -45,33 +50,48 @@ has-one-more (u ∷ l) t =
     or-swap false true c = refl
     or-swap false false c = refl
 
--- no semicolon came, and `any` says whether a token did
-pub record Uncut (s : Source) (from at : ℕ) (any : Bool) : Type 0 where
+-- the kinds of two runs of lexemes, and of one lexeme more
+pub kinds-append : (l m : List Legal) → kindsOf (l ++ m) ≡ kindsOf l ++ kindsOf m
+unfolding kindsOf
+kinds-append [] m = refl
+kinds-append (t ∷ l) m =
+    ap (λ (k : List ℕ). counted (t .kind) ++ k) (kinds-append l m) ∙ sym (append-assoc (counted (t .kind)) (kindsOf l) (kindsOf m))
+
+kinds-one-more : (l : List Legal) (t : Legal) → kindsOf (l ++ (t ∷ [])) ≡ kindsOf l ++ counted (t .kind)
+unfolding kindsOf
+kinds-one-more l t = kinds-append l (t ∷ []) ∙ ap (λ (k : List ℕ). kindsOf l ++ k) (append-nil (counted (t .kind)))
+
+-- the statement did not end; `any` says whether a token came, and `seen` what their kinds are
+pub record Uncut (s : Source) (from at : ℕ) (any : Bool) (seen : Seen) : Type 0 where
   pub passed : List Legal
-  pub passes : Passes NoSemi s [] from passed at
+  pub passes : Passes Within s [] from passed at
   pub has : any ≡ someNotNone passed
+  pub tells : Tells seen (kindsOf passed)
 
-pub begins : (s : Source) (from : ℕ) → Uncut s from from false
-unfolding Passes someNotNone
-begins s from = record { passed = []; passes = refl; has = refl }
+pub begins : (s : Source) (from : ℕ) → Uncut s from from false Nothing
+unfolding Passes someNotNone kindsOf
+begins s from = record { passed = []; passes = refl; has = refl; tells = such-tells Nothing }
 
-module _ {s : Source} {from at : ℕ} {any : Bool} (v : Uncut s from at any) where
+module _ {s : Source} {from at : ℕ} {any : Bool} {seen : Seen} (v : Uncut s from at any seen) where
   pub ahead : from ≤ at
-  ahead = passes-ahead NoSemi s [] from (v .passed) at (v .passes)
+  ahead = passes-ahead Within s [] from (v .passed) at (v .passes)
 
-  pub onward : (k start m : ℕ) (next : Cursor) (d u : ℕ) → LexesUnder (s .profile) (s .text) at (Token k start m next d u) → (k ≡ kind "TK_SEMI" → ⊥)
-      → (more : Bool) → more ≡ notNone k || any → Uncut s from (next .at) more
-  unfolding LexesUnder
-  onward k start m next d u h other more e =
+  pub onward : (k start m : ℕ) (next : Cursor) (d u : ℕ) → LexesUnder (s .profile) (s .text) at (Token k start m next d u)
+      → (here : Bool) → SaysEnd seen k here → here ≡ false
+      → (more : Bool) → more ≡ notNone k || any → (then : Seen) → Follows seen k then → Uncut s from (next .at) more then
+  unfolding LexesUnder SaysEnd Follows
+  onward k start m next d u h here says left more e then follows =
       let t = legal k start m d u in
+      let passed : Within (v .passed) t = λ x. true≢false (sym (says (kindsOf (v .passed)) (v .tells) .1 x) ∙ left) in
       record {
         passed = v .passed ++ (t ∷ []);
-        passes = token-passes NoSemi s from (v .passed) at k start m (next .at) d u (v .passes) h other;
+        passes = token-passes Within s from (v .passed) at k start m (next .at) d u (v .passes) h passed;
         has = e ∙ ap (λ (b : Bool). notNone k || b) (v .has) ∙ sym (has-one-more (v .passed) t);
+        tells = subst (Tells then) (sym (kinds-one-more (v .passed) t)) (follows (kindsOf (v .passed)) (v .tells));
       }
 
   -- the walk ends here
-  cutting : (there : Answer) → Next s at there → ((t : Legal) → there ≡ tokenOf t → NoSemi (v .passed) t → ⊥)
+  cutting : (there : Answer) → Next s at there → ((t : Legal) → there ≡ tokenOf t → Within (v .passed) t → ⊥)
       → Cutting s from (cutAnswer from any there)
   cutting there g stuck =
       record {
@@ -79,11 +99,12 @@ module _ {s : Source} {from at : ℕ} {any : Bool} (v : Uncut s from at any) whe
         answers = ap (λ (b : Bool). cutAnswer from b there) (v .has);
       }
 
-  pub semi-cuts : (k start m : ℕ) (next : Cursor) (d u : ℕ) → LexesUnder (s .profile) (s .text) at (Token k start m next d u) → k ≡ kind "TK_SEMI"
-      → Cuts s from (Cut from (next .at - from) any next)
-  unfolding LexesUnder Cuts
-  semi-cuts k start m next d u g e =
-      cutting (token k start m (next .at) d u) g (λ t p other. let same : t .kind ≡ k = cc in other (same ∙ e))
+  pub semi-cuts : (k start m : ℕ) (next : Cursor) (d u : ℕ) → LexesUnder (s .profile) (s .text) at (Token k start m next d u)
+      → (here : Bool) → SaysEnd seen k here → here ≡ true → Cuts s from (Cut from (next .at - from) any next)
+  unfolding LexesUnder SaysEnd Cuts
+  semi-cuts k start m next d u g here says taken =
+      let (semi, ends) = says (kindsOf (v .passed)) (v .tells) .0 taken in
+      cutting (token k start m (next .at) d u) g (λ t p other. let same : t .kind ≡ k = cc in other (same ∙ semi, ends))
 
   pub refusal-cuts : (why : Refusal) (start m : ℕ) (next given : Cursor) → from ≡ given .at → LexesUnder (s .profile) (s .text) at (Bad why start m next)
       → Cuts s from (Refused why start m given)

@@ -1,17 +1,18 @@
 -- The tables of texts hold. Assumes nothing.
 use Prim.Native.Nat.{ℕ, zero, suc, _+_}
 use native.Mathlib.Omega.{arith}
-use mathlib.Core.Path.{_≡_, refl, sym, ap, subst}
-use mathlib.Core.Bool.{Bool, true, false, cond, not}
+use mathlib.Core.Path.{_≡_, refl, sym, _∙_, ap, subst}
+use mathlib.Core.Bool.{Bool, true, false, cond, not, _&&_, true≢false}
 use mathlib.Core.List.{List, [], _∷_, _++_, map, nil≢cons, head-eq-of-cons-eq, tail-eq-of-cons-eq}
 use mathlib.Core.Logic.{inl, inr}
-use lib.Dec.{T, eqb, leb, eqb→eq, eqb-refl, leb→le, le→leb, T-not, not-T}
+use lib.Dec.{T, eqb, leb, eqb→eq, leb→le, le→leb}
 use lib.ListN.{length, drop}
 use Rattle.keywords.specs.Kinds.{kind}
 use Rattle.keywords.proofs.Logic.{split, and-left, and-right, every}
 use Rattle.keywords.specs.Words.{wordList}
 use Rattle.words.specs.Bytes.{isDigit, isHexdigit, isIdentifierStart, isIdentifierContinue, isBlank}
 use Rattle.words.specs.Word.{upper, kindOf}
+use Rattle.triggers.proofs.EndLaws.{endsNow, ends-now}
 use Rattle.grammar.specs.Classes.{operators, rules}
 use Rattle.grammar.specs.Answers.{Answer, token, end, refusal, answer}
 use Rattle.grammar.specs.Longest.{Every, Source, Next}
@@ -22,7 +23,7 @@ use Rattle.lists.specs.Walk.{Legal, Goes, Passes}
 use Rattle.lists.specs.declared.list.Listed.{Listed}
 use Rattle.lists.specs.declared.cut.Statement.{Statement}
 use Rattle.lists.specs.Lists.{recordOf, recordsOf, HasRoom, listAnswer, Listing, answerOf, recordsIn, longestText, Lists}
-use Rattle.lists.specs.Cuts.{CutAnswer, NoSemi, someNotNone, cutAnswer, Cutting, valuesOf, Cuts}
+use Rattle.lists.specs.Cuts.{CutAnswer, kindsOf, Within, someNotNone, cutAnswer, Cutting, valuesOf, Cuts}
 use Rattle.lists.specs.Texts.{CutRow, cuts, ListRow, lists}
 use Rattle.lists.proofs.WalkLaws.{legal, legalOf, Stuck, token-passes, end-no-token, refusal-no-token}
 use Rattle.lists.proofs.Theorems.{listing-unique, cutting-unique}
@@ -81,17 +82,15 @@ abbrev cutGiven : CutRow → Stop → List CutAnswer
 cutGiven r nowhere = []
 cutGiven r (stop l to there) = cutAnswer (r .from) (someNotNone l) there ∷ []
 
-abbrev semi : Legal → Bool
-semi t = eqb (t .kind) (kind "TK_SEMI")
-
-abbrev isOther : Test
-isOther l t = not (semi t)
+-- no semicolon that ends the statement
+abbrev within : Test
+within l t = not (eqb (t .kind) (kind "TK_SEMI") && endsNow (kindsOf l))
 
 abbrev cutWalk : CutRow → Stop
-cutWalk r = walk 20 isOther (r .source) [] (r .from)
+cutWalk r = walk 40 within (r .source) [] (r .from)
 
 computed-cuts : map (λ r. cutGiven r (cutWalk r)) cuts ≡ map (λ r. r .answer ∷ []) cuts
-unfolding cuts someNotNone rules operators isDigit isHexdigit isIdentifierStart isIdentifierContinue isBlank answer kindOf upper wordList
+unfolding cuts someNotNone kindsOf rules operators isDigit isHexdigit isIdentifierStart isIdentifierContinue isBlank answer kindOf upper wordList
 computed-cuts = refl
 
 -- what List answers for a row, if the walk has stopped
@@ -118,17 +117,33 @@ computed-lists : map (λ r. listGiven r (listWalk r)) lists ≡ map (λ r. r ∷
 unfolding lists recordsOf rules operators isDigit isHexdigit isIdentifierStart isIdentifierContinue isBlank answer kindOf upper wordList
 computed-lists = refl
 
-semi-decides : Decides NoSemi isOther
-semi-decides =
-    record {
-      yes = λ l t e p. T-not (semi t) (subst T (sym e) tt) (subst (λ (x : ℕ). T (eqb (t .kind) x)) p (eqb-refl (t .kind)));
-      not = λ l t e other. subst T e (not-T (semi t) (λ x. other (eqb→eq (t .kind) (kind "TK_SEMI") x)));
-    }
+within-decides : Decides Within within
+within-decides = record { yes = passes; not = stops }
+  where
+    not-false : (b : Bool) → not b ≡ false → b ≡ true
+    not-false true e = refl
+    not-false false e = sym e
+
+    semi : (k : ℕ) → k ≡ kind "TK_SEMI" → eqb k (kind "TK_SEMI") ≡ true
+    semi k e = rw e refl
+
+    passes : (l : List Legal) (t : Legal) → within l t ≡ true → Within l t
+    passes l t e (is, ends) =
+        let p = ap (λ (b : Bool). not (b && endsNow (kindsOf l))) (semi (t .kind) is) in
+        let q = ap (λ (b : Bool). not (true && b)) (ends-now (kindsOf l) .1 ends) in
+        true≢false (sym e ∙ p ∙ q)
+
+    stops : (l : List Legal) (t : Legal) → within l t ≡ false → Within l t → ⊥
+    stops l t e o =
+        let both = not-false (eqb (t .kind) (kind "TK_SEMI") && endsNow (kindsOf l)) e in
+        let is = and-left (eqb (t .kind) (kind "TK_SEMI")) (endsNow (kindsOf l)) both in
+        let ends = and-right (eqb (t .kind) (kind "TK_SEMI")) (endsNow (kindsOf l)) both in
+        o (eqb→eq (t .kind) (kind "TK_SEMI") (subst T (sym is) tt), ends-now (kindsOf l) .0 ends)
 
 room-decides : (numbers : ℕ) → Decides (HasRoom numbers) (hasRoom numbers)
 room-decides numbers = record { yes = λ l t e. leb→le _ _ (subst T (sym e) tt); not = λ l t e h. subst T e (le→leb _ _ h) }
 
-cut-row : (r : CutRow) (w : Stop) → Right NoSemi (r .source) (r .from) w → cutGiven r w ≡ r .answer ∷ []
+cut-row : (r : CutRow) (w : Stop) → Right Within (r .source) (r .from) w → cutGiven r w ≡ r .answer ∷ []
     → Cutting (r .source) (r .from) (r .answer)
 cut-row r nowhere x e = absurd (nil≢cons e)
 cut-row r (stop l to there) (p, g, stuck) e =
@@ -152,7 +167,7 @@ cut-texts = every-row cuts computed-cuts
     every-row : (l : List CutRow) → map (λ r. cutGiven r (cutWalk r)) l ≡ map (λ r. r .answer ∷ []) l → Every CutSo l
     every-row [] e = tt
     every-row (r ∷ l) e =
-        let right = from-here NoSemi isOther semi-decides (r .source) (r .from) 20 in
+        let right = from-here Within within within-decides (r .source) (r .from) 40 in
         (cut-so r (cut-row r (cutWalk r) right (head-eq-of-cons-eq e)), every-row l (tail-eq-of-cons-eq e))
 
 -- List gives what a row says; an answer and a list are those of a row
