@@ -1,10 +1,12 @@
 /* tokens: what SQLite's own tokenizer says of the records of standard input (docs/SQLBATCH.md). For each record a line: the token's code
- * and its length at every place of the text, one place after the other, whatever the offset. `tokens version` prints SQLite's version
- * alone. It is linked with libsqlite3.a, where the tokenizer can be called by its name; no header declares it, nor its codes. */
+ * and its length at every place of the text, one place after the other, whatever the offset. `tokens complete`: for each record a line,
+ * 1 where sqlite3_complete says that the text's last statement has ended, else 0. `tokens version` prints SQLite's version alone. It is
+ * linked with libsqlite3.a, where the tokenizer can be called by its name; no header declares it, nor its codes. */
 #include <stdio.h>
 #include <string.h>
 
 int sqlite3GetToken(const unsigned char *text, int *code);
+int sqlite3_complete(const char *text);
 const char *sqlite3_libversion(void);
 
 enum { LONGEST = 65536 };
@@ -13,7 +15,7 @@ static unsigned long number(const unsigned char *bytes) {
     return bytes[0] | (unsigned long)bytes[1] << 8 | (unsigned long)bytes[2] << 16 | (unsigned long)bytes[3] << 24;
 }
 
-/* The tokenizer reads up to a zero byte, so one stands behind the text. */
+/* SQLite reads up to a zero byte, so one stands behind the text. */
 static void answer(const unsigned char *text, unsigned long length) {
     for (unsigned long place = 0; place < length; place++) {
         int code;
@@ -26,6 +28,7 @@ static void answer(const unsigned char *text, unsigned long length) {
 int main(int argc, char **argv) {
     static unsigned char text[LONGEST + 1];
     unsigned char head[8];
+    int complete = argc == 2 && strcmp(argv[1], "complete") == 0;
     if (argc == 2 && strcmp(argv[1], "version") == 0) {
         puts(sqlite3_libversion());
         return 0;
@@ -37,7 +40,11 @@ int main(int argc, char **argv) {
             break;
         }
         text[length] = 0;
-        answer(text, length);
+        if (complete) {
+            puts(sqlite3_complete((const char *)text) ? "1" : "0");
+        } else {
+            answer(text, length);
+        }
     }
     if (had != 0) {
         puts("BADRECORD");

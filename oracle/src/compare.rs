@@ -1,7 +1,9 @@
 //! The published lexer, or Next stated a second time, beside another program that answers the same records: texts by many rules, answers
-//! byte for byte. And the second statement beside the published lexer, and beside SQLite's tokenizer.
+//! byte for byte. And the second statement beside the published lexer, and beside SQLite's tokenizer; and the cut beside SQLite's
+//! `sqlite3_complete`.
 
 mod alphabets;
+mod complete;
 mod corpus;
 mod cuts;
 mod damage;
@@ -14,6 +16,7 @@ mod random;
 mod shares;
 mod statements;
 mod tokenizer;
+mod triggers;
 mod walks;
 mod words;
 
@@ -21,6 +24,7 @@ use crate::modes::Mode;
 use crate::records;
 use crate::second::Profile;
 use crate::walk::Source;
+pub use complete::complete;
 use corpus::Corpus;
 use families::{Family, Plan};
 use random::Random;

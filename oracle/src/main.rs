@@ -54,6 +54,7 @@ fn main() -> io::Result<ExitCode> {
         ("compare", _) => compare::compare(&mut out, &words[1..])?,
         ("second", _) => compare::second(&mut out, &words[1..])?,
         ("tokenizer", _) => compare::tokenizer(&mut out, &words[1..])?,
+        ("complete", _) => compare::complete(&mut out, &words[1..])?,
         ("tokens", _) => compare::tokens(input(), &mut out, &words[1..])?,
         _ => {
             eprintln!("{}", modes::USAGE);

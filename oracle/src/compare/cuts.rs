@@ -3,7 +3,7 @@
 use super::damage::{damage, SPECIAL};
 use super::families::{Family, Plan};
 use super::random::Random;
-use super::{lexemes, makers, statements};
+use super::{lexemes, makers, statements, triggers};
 use crate::modes::Mode;
 
 pub const CUT: fn(u64) -> Mode = |_| Mode::Cut;
@@ -42,6 +42,8 @@ pub fn families(plan: Plan) -> Vec<Family> {
             (0..=r.below(16)).for_each(|_| text.push(if r.once_in(6) { b';' } else { r.byte_of(SPECIAL) }));
             r.below(text.len() + 2)
         }),
+        family("triggers", 5 * share, triggers::damaged),
+        triggers::words("cut: trigger words", 6 * share, plan.seed),
         every("cut: statements", b"; a'1\n-"),
         every("cut: comments", b";/*-\na"),
         Family::new("cut: longest", CUT, 24 + plan.count / 200_000, makers::longest),

@@ -61,6 +61,17 @@ impl<'a> Family<'a> {
         Family { piece, ..self }
     }
 
+    /// The texts of a piece, where the family has this place among others.
+    pub fn texts(&self, piece: u64, place: u64, seed: u64) -> Vec<Vec<u8>> {
+        let from = piece * self.piece;
+        let text = |index| {
+            let mut text = Vec::new();
+            (self.make)(index, &mut Random::new(seed, place, index), &mut text);
+            text
+        };
+        (from..self.count.min(from + self.piece)).map(text).collect()
+    }
+
     /// Every text over the alphabet, shortest first, as far as `most` of them reach; as many longer ones where the seed is not
     /// the first. With each text every offset up to one past the end of the longest.
     pub fn every(name: &str, mode: fn(u64) -> Mode, alphabet: &'a [u8], most: u64, seed: u64, offsets: bool) -> Self {

@@ -5,7 +5,8 @@ use super::{cuts, lists, near, walks, words};
 use crate::second::Profile;
 
 /// About `count` texts under `turso`. Half, and runs of digits besides, are for Next, on which the other calls stand; List and the cut
-/// add little code of their own, and have a fifth each; a tenth is for single words, which the texts of the others are full of too.
+/// add little code of their own, and have a fifth each, the cut triggers besides; a tenth is for single words, which the texts of the
+/// others are full of too.
 /// Besides, about a sixth as many under `sqlite`: a tenth by the same rules, the rest rich in what it reads otherwise.
 pub fn all(plan: Plan) -> Vec<Family> {
     let sqlite = Plan { count: plan.count / 10, profile: Profile::Sqlite, ..plan };

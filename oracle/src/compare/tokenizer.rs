@@ -5,7 +5,6 @@ mod codes;
 mod differences;
 
 use super::families::Family;
-use super::random::Random;
 use super::{ask, count, near, walks, Plan, Wanted};
 use crate::modes::Mode;
 use crate::records;
@@ -32,7 +31,9 @@ pub fn tokenizer(out: &mut impl Write, args: &[String]) -> io::Result<bool> {
     let mut texts = 0;
     for (place, family) in families(wanted.plan()).iter().enumerate() {
         for piece in 0..family.count.div_ceil(family.piece) {
-            if let Some(told) = held.piece(&make(family, piece, place as u64, wanted.seed))? {
+            let mut made = family.texts(piece, place as u64, wanted.seed);
+            made.iter_mut().for_each(|text| text.truncate(LONGEST));
+            if let Some(told) = held.piece(&made)? {
                 writeln!(out, "a difference on no list, in '{}', seed {}\n{told}", family.name, wanted.seed)?;
                 return Ok(false);
             }
@@ -78,17 +79,6 @@ fn families(plan: Plan) -> Vec<Family> {
     // Each text once: for a list it would be the same with each length.
     families.retain(|family| matches!((family.mode)(0), Mode::Next | Mode::Sums));
     families
-}
-
-fn make(family: &Family, piece: u64, place: u64, seed: u64) -> Vec<Vec<u8>> {
-    let from = piece * family.piece;
-    let text = |index| {
-        let mut text = Vec::new();
-        (family.make)(index, &mut Random::new(seed, place, index), &mut text);
-        text.truncate(LONGEST);
-        text
-    };
-    (from..family.count.min(from + family.piece)).map(text).collect()
 }
 
 struct Held<'a> {
