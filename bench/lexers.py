@@ -121,6 +121,7 @@ def of_sqlite(machine):
 LEXERS = {  # the symbol of List, what is linked, flags of the measuring program
     "List": ("sqllex_list", of_list, ["-DPROFILE=0"]),
     "List:sqlite": ("sqllex_list", of_list, ["-DPROFILE=1"]),  # under the other profile
+    "cut": ("sqllex_cut", of_list, ["-DPROFILE=0", "-DCUTS"]),
     "Rust": ("rust_list", of_rust, []),
     "Rust+": ("rust_list", of_rust_with_real_memchr, []),
     "SQLite": ("sqlite_list", of_sqlite, []),

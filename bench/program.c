@@ -1,5 +1,6 @@
 /* The program that is measured, on x86-64 Linux and on the emulated Cortex-M4 alike. It is compiled once for each lexer, with -DLIST=..
- *   program FILE REPEATS   List of the text, so many times: instructions of one pass = (those of 3 passes - those of 1) / 2
+ *   program FILE REPEATS   List of the text, so many times: instructions of one pass = (those of 3 passes - those of 1) / 2; with -DCUTS
+ *                          the cut of all its statements
  *   program FILE dump      the records, a line each
  *   program FILE stack     bytes of stack that calls really used; with -DALL_CALLS also those of next and cut
  * A length is 64 bits wide on both machines, since the library has it so. */
@@ -13,7 +14,20 @@
 enum { TEXT = 65535, NUMBERS = 3 * TEXT, LANE = 65536 };
 
 typedef uint64_t list_function(const uint8_t *text, uint64_t length, uint32_t *list, uint64_t numbers);
-#ifdef PROFILE
+typedef uint32_t place_function(const uint8_t *text, uint64_t length, uint64_t offset, uint32_t profile, uint64_t *answer);
+place_function sqllex_next, sqllex_cut;
+enum { CUT = 101 };
+static uint64_t answer[6];
+#ifdef CUTS
+/* In List's place the cut, from statement to statement. */
+static uint64_t under_profile(const uint8_t *t, uint64_t n, uint32_t *l, uint64_t c)
+{
+    uint64_t count = 0;
+    for (uint64_t at = 0; sqllex_cut(t, n, at, PROFILE, answer) == CUT; count++)
+        at = answer[3];
+    return count;
+}
+#elif defined PROFILE
 uint64_t LIST(const uint8_t *text, uint64_t length, uint32_t profile, uint32_t *list, uint64_t numbers);
 static uint64_t under_profile(const uint8_t *t, uint64_t n, uint32_t *l, uint64_t c) { return LIST(t, n, PROFILE, l, c); }
 #else
@@ -66,11 +80,7 @@ static unsigned list_stack(list_function *call)
 }
 
 #ifdef ALL_CALLS
-enum { CUT = 101 };
-typedef uint32_t place_function(const uint8_t *text, uint64_t length, uint64_t offset, uint32_t profile, uint64_t *answer);
-place_function sqllex_next, sqllex_cut;
-
-static uint64_t places[TEXT + 1], place_count, answer[6];
+static uint64_t places[TEXT + 1], place_count;
 static uint32_t no_call(const uint8_t *t, uint64_t n, uint64_t at, uint32_t p, uint64_t *a) { return 0; }
 static place_function *volatile place_call;
 static void call_at_places(void)

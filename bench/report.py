@@ -7,7 +7,7 @@ import sys
 from lexers import KIT, SQLITE_SOURCE, UNPROVED, compile_library, is_archives
 from machines import M4, OUT, X86, Missing, run
 from space import linked, sizes, stacks
-from speed import growth, instructions, length, profile, same_lists, total
+from speed import cuts, growth, instructions, length, profile, same_lists, total
 
 MOST_STACK = 768  # bytes
 MOST_LOOKUP = 2400  # bytes
@@ -59,6 +59,8 @@ def main():
     ours = ["List", "List:sqlite"]
     part("Instructions a byte, x86-64", instructions, X86, ours if UNPROVED else [*ours, "Rust", "Rust+", "SQLite"])
     part("Instructions a byte, Cortex-M4", instructions, M4, ours if UNPROVED else [*ours, "Rust", "SQLite"])
+    for machine in X86, M4:
+        part(f"The cut of all statements, instructions a byte of the text sync, {machine.name}", cuts, machine)
     worst = part("How List grows, x86-64: one text once, twice and four times", growth)
     bounds = [part(f"Stack in bytes, {machine.name}", stacks, machine) for machine in (X86, M4)]
     _, lookup = [part(f"Code size in bytes, {machine.name}", sizes, machine) for machine in (X86, M4)]

@@ -85,6 +85,10 @@ def instructions(machine, lexers):
         print(f"{name:12}{numbers[lexers[0]]:8,}{a_byte}  {'; '.join(others)}".rstrip())
 
 
+def cuts(machine):
+    print(f"{total(machine, 'cut', 'sync') / length('sync'):.2f}")
+
+
 def growth():
     """Prints a line for each length, and gives the most percent from linear."""
     worst = 0
