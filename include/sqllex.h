@@ -360,8 +360,10 @@ uint32_t sqllex_list_from(const uint8_t *text, size_t text_length, size_t offset
 uint64_t sqllex_list(const uint8_t *text, size_t text_length, uint32_t profile, uint32_t *list, size_t list_length);
 
 /*
- * The statement from an offset on, up to and with its semicolon. Only a semicolon that is a token counts, none inside a string, a
- * quoted name (under SQLLEX_SQLITE also one in brackets), a comment or a parameter's `(..)`.
+ * The statement from an offset on, up to and with the semicolon that ends it. Only a semicolon that is a token counts, none inside a
+ * string, a quoted name (under SQLLEX_SQLITE also one in brackets), a comment or a parameter's `(..)`. A statement that begins with
+ * CREATE TRIGGER, CREATE TEMP TRIGGER or CREATE TEMPORARY TRIGGER, or so behind EXPLAIN or EXPLAIN QUERY PLAN, ends at a semicolon that
+ * directly follows END which directly follows a semicolon; any other ends at its first. Blanks and comments do not count.
  *
  *     status                   value   start        length        next
  *     SQLLEX_CUT               0 or 1  offset       to behind ;   start + length
@@ -371,9 +373,9 @@ uint64_t sqllex_list(const uint8_t *text, size_t text_length, uint32_t profile, 
  *     SQLLEX_OFFSET_PAST_END   0       0            0             offset
  *     SQLLEX_UNKNOWN_PROFILE   nothing is written
  *
- * `value` is 1 where a token that is no SQLLEX_TK_NONE came before the semicolon, or before the end where there is no semicolon.
- * SQLLEX_OPEN: such a token came, and no semicolon. SQLLEX_END: neither came. A refusal is that of the first lexeme which
- * sqllex_next refuses before a semicolon.
+ * `value` is 1 where a token that is no SQLLEX_TK_NONE came before that semicolon, or before the end where no semicolon ends the
+ * statement. SQLLEX_OPEN: such a token came, and no semicolon that ends it. SQLLEX_END: neither came. A refusal is that of the first
+ * lexeme which sqllex_next refuses before that semicolon.
  */
 uint32_t sqllex_cut(const uint8_t *text, size_t text_length, size_t offset, uint32_t profile, sqllex_answer *answer);
 

@@ -438,6 +438,15 @@ static void try_cut(void)
     CUT(1, SQLLEX_BAD_FRACTIONAL_PART, 0, 5, 2, 1);
     TEXT("a \vb ;");
     CUT(1, SQLLEX_UNRECOGNIZED_TOKEN, 0, 2, 2, 1);
+    TEXT("create trigger a begin select 1; end;b");
+    CUT(0, SQLLEX_CUT, 1, 0, 37, 37);
+    CUT(7, SQLLEX_CUT, 1, 7, 25, 32); /* from the second word on it is no trigger's */
+    TEXT("explain query plan create temporary trigger a; end /*;*/");
+    CUT(0, SQLLEX_OPEN, 1, 0, 56, 56);
+    TEXT("create temp trigger a;!;end;");
+    CUT(0, SQLLEX_EXPECTED_EQUALS_SIGN, 0, 22, 1, 0);
+    TEXT("create temp;a");
+    CUT(0, SQLLEX_CUT, 1, 0, 12, 12);
 }
 
 /* Texts as long as a list takes, and longer. */
@@ -510,7 +519,7 @@ static void try_statement(void)
 }
 
 /*
- * What the two profiles read otherwise, by every call. To the cut one token is as good as another, so it is asked where a semicolon is a
+ * What the two profiles read otherwise, by every call. To the cut these tokens are as good as others, so it is asked where a semicolon is a
  * token, or a lexeme refused, under one profile alone; `&&` is the same to it under both.
  */
 static void try_turso(void)
