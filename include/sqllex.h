@@ -362,8 +362,8 @@ uint64_t sqllex_list(const uint8_t *text, size_t text_length, uint32_t profile, 
 /*
  * The statement from an offset on, up to and with the semicolon that ends it. Only a semicolon that is a token counts, none inside a
  * string, a quoted name (under SQLLEX_SQLITE also one in brackets), a comment or a parameter's `(..)`. A statement that begins with
- * CREATE TRIGGER, CREATE TEMP TRIGGER or CREATE TEMPORARY TRIGGER, or so behind EXPLAIN or EXPLAIN QUERY PLAN, ends at a semicolon that
- * directly follows END which directly follows a semicolon; any other ends at its first. Blanks and comments do not count.
+ * CREATE TRIGGER, CREATE TEMP TRIGGER or CREATE TEMPORARY TRIGGER, or so behind EXPLAIN or EXPLAIN QUERY PLAN, ends only at a semicolon
+ * that directly follows END which directly follows a semicolon; any other ends at its first. Blanks and comments do not count.
  *
  *     status                   value   start        length        next
  *     SQLLEX_CUT               0 or 1  offset       to behind ;   start + length

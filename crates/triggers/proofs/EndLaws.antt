@@ -40,6 +40,7 @@ trigger-begins kinds (e, t, rest, x, y, p) = ap (beginsOne heads) p ∙ by-parts
     by-parts (inr (inr p)) (inl q) = rw p (rw q refl)
     by-parts (inr (inr p)) (inr q) = rw p (rw q refl)
 
+-- and the other way, from each of the six
 headed : (e t kinds : List ℕ) → Explained e → Temporary t → begins (e ++ (kind "TK_CREATE" ∷ t) ++ (kind "TK_TRIGGER" ∷ [])) kinds ≡ true
     → IsTrigger kinds
 headed e t kinds x y h =
@@ -70,12 +71,12 @@ begins-trigger kinds =
         (λ g. ⊎-elim (headed e [] kinds x (inl refl)) f (or-cases _ _ g)) (or-cases _ _ h)
 
 -- END directly after a semicolon, by its test
-pub semi-end-so : (kinds : List ℕ) → semiEndLast kinds ≡ true → AfterSemiEnd kinds
+semi-end-so : (kinds : List ℕ) → semiEndLast kinds ≡ true → AfterSemiEnd kinds
 semi-end-so kinds e =
     let (rest, p) = begins-rest (kind "TK_END" ∷ kind "TK_SEMI" ∷ []) (reverse kinds) e in
     (reverse rest, sym (reverse-reverse kinds) ∙ ap reverse p ∙ reverse-append (kind "TK_END" ∷ kind "TK_SEMI" ∷ []) rest)
 
-pub so-semi-end : (kinds : List ℕ) → AfterSemiEnd kinds → semiEndLast kinds ≡ true
+so-semi-end : (kinds : List ℕ) → AfterSemiEnd kinds → semiEndLast kinds ≡ true
 so-semi-end kinds (before, p) =
     ap semiEndLast p ∙ ap (begins (kind "TK_END" ∷ kind "TK_SEMI" ∷ [])) (reverse-append before (kind "TK_SEMI" ∷ kind "TK_END" ∷ []))
 

@@ -27,11 +27,11 @@ pub stays : (seen : Seen) (k : ℕ) → k ≡ kind "TK_NONE" → Follows seen k 
 unfolding Follows
 stays seen k e kinds h = subst (Tells seen) (sym (ap (λ (l : List ℕ). kinds ++ l) (none-counted k e) ∙ append-nil kinds)) h
 
-pub on : {seen : Seen} {k : ℕ} → (k ≡ kind "TK_NONE" → ⊥) → (s r : Seen) → seen ≡ s
+pub goes-on : {seen : Seen} {k : ℕ} → (k ≡ kind "TK_NONE" → ⊥) → (s r : Seen) → seen ≡ s
     → ((more : List ℕ) → beginsOne (wanting s) (k ∷ more) ≡ beginsOne (wanting r) more)
     → ((kinds : List ℕ) → Lastly s kinds → Lastly r (kinds ++ (k ∷ []))) → Follows seen k r
 unfolding Follows
-on {seen} {k} some s r is step last kinds h =
+goes-on {seen} {k} some s r is step last kinds h =
     let t = subst (λ (q : Seen). Tells q kinds) is h in
     subst (λ (l : List ℕ). Tells r (kinds ++ l)) (sym (some-counted k some))
     (record {
@@ -68,23 +68,23 @@ last-other : (k : ℕ) → eqb k (kind "TK_SEMI") ≡ false → eqb k (kind "TK_
 last-other k p q kinds = last-so kinds k false false (rw p refl) (rw q refl)
 
 -- In a body, where END makes `end` of what is seen.
-pub body-on : {seen : Seen} {k : ℕ} → (k ≡ kind "TK_NONE" → ⊥) → (s end r : Seen) → seen ≡ s
+pub body-goes-on : {seen : Seen} {k : ℕ} → (k ≡ kind "TK_NONE" → ⊥) → (s end r : Seen) → seen ≡ s
     → ((more : List ℕ) → beginsOne (wanting s) more ≡ true) → ((more : List ℕ) → beginsOne (wanting end) more ≡ true)
     → (k ≡ kind "TK_END" → (kinds : List ℕ) → Lastly s kinds → Lastly end (kinds ++ (k ∷ [])))
     → r ≡ bodyWith k end → Follows seen k r
-body-on {seen} {k} some s end r is all all′ last e =
+body-goes-on {seen} {k} some s end r is all all′ last e =
     split (eqb k (kind "TK_SEMI"))
     (λ p.
     subst (Follows seen k) (sym (e ∙ rw p refl))
-    (on some s Semi is (λ more. all (k ∷ more)) (λ kinds h. last-semi (same k (kind "TK_SEMI") p) kinds)))
+    (goes-on some s Semi is (λ more. all (k ∷ more)) (λ kinds h. last-semi (same k (kind "TK_SEMI") p) kinds)))
     (λ p.
     split (eqb k (kind "TK_END"))
     (λ q.
     subst (Follows seen k) (sym (e ∙ rw p (rw q refl)))
-    (on some s end is (λ more. all (k ∷ more) ∙ sym (all′ more)) (last (same k (kind "TK_END") q))))
+    (goes-on some s end is (λ more. all (k ∷ more) ∙ sym (all′ more)) (last (same k (kind "TK_END") q))))
     (λ q.
     subst (Follows seen k) (sym (e ∙ rw p (rw q refl)))
-    (on some s Body is (λ more. all (k ∷ more)) (λ kinds h. last-other k p q kinds))))
+    (goes-on some s Body is (λ more. all (k ∷ more)) (λ kinds h. last-other k p q kinds))))
 
 -- whether a semicolon that comes next ends the statement, by what is seen
 abbrev pub endsIn : Seen → Bool

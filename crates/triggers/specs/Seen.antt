@@ -1,4 +1,4 @@
--- For private functions: what a `Seen` tells of the kinds that a statement has so far. Assumes nothing.
+-- What a `Seen` tells of the kinds that a statement has so far: for `follow` and `ends`, and no part of what the cut owes. Assumes nothing.
 use Prim.Native.Nat.{ℕ}
 use mathlib.Core.Path.{_≡_}
 use mathlib.Core.Bool.{Bool, true, false, cond, _&&_, _||_}
