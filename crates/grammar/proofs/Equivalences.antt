@@ -1,6 +1,6 @@
 -- Equivalences and tests, put together and taken apart. Assumes nothing.
 use mathlib.Core.Path.{_≡_, refl, sym}
-use mathlib.Core.Bool.{Bool, true, false, not, _&&_, _||_, true≢false}
+use mathlib.Core.Bool.{Bool, true, false, not, _&&_, _||_, Bool·beq, true≢false}
 use mathlib.Core.List.{List, [], _∷_}
 use mathlib.Core.Logic.{_↔_, _⊎_, inl, inr, ⊎-elim, ⊎-map}
 use Rattle.keywords.proofs.Logic.{and-left, and-right, every}
@@ -17,6 +17,12 @@ or-iff false b = (inr, ⊎-elim (λ e. absurd (true≢false (sym e))) (λ e. e))
 pub not-iff : (a : Bool) → (not a ≡ true) ↔ (a ≡ true → ⊥)
 not-iff true = (λ e d. true≢false (sym e), λ n. absurd (n refl))
 not-iff false = (λ e d. true≢false (sym d), λ n. refl)
+
+pub beq-eq : (a b : Bool) → Bool·beq a b ≡ true → a ≡ b
+beq-eq true true e = refl
+beq-eq true false e = absurd (true≢false (sym e))
+beq-eq false true e = absurd (true≢false (sym e))
+beq-eq false false e = refl
 
 pub both : {A B C D : Type 0} → A ↔ C → B ↔ D → (A × B) ↔ (C × D)
 both p q = (λ h. (p .0 (h .0), q .0 (h .1)), λ h. (p .1 (h .0), q .1 (h .1)))

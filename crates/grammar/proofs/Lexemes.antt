@@ -213,6 +213,19 @@ module _ (rs : List Rule) (ok : Sound rs) where
       go nothing u = let e = ap length (unmet-empty s u) in absurd (omega arith)
       go (found n k) h = (ruleAt rs k .class, n, found-longest s n k h, refl)
 
+  -- what the model finds is the longest lexeme, and the longest lexeme is found
+  pub scan-longest : (s : List ℕ) (n k : ℕ) → scan (start rs) s ≡ found n k → Longest rs s (ruleAt rs k .class) n
+  scan-longest s n k e = found-longest s n k (subst (Right (start rs) s) e (scan-right s (start rs)))
+
+  pub longest-scan : (s : List ℕ) (c : Class) (n : ℕ) → Longest rs s c n → (k : ℕ) × (scan (start rs) s ≡ found n k) × (ruleAt rs k .class ≡ c)
+  longest-scan s c n z = go (scan (start rs) s) refl
+    where
+      go : (f : Found) → scan (start rs) s ≡ f → (k : ℕ) × (scan (start rs) s ≡ found n k) × (ruleAt rs k .class ≡ c)
+      go nothing e = absurd (unmet-stands s (subst (Right (start rs) s) e (scan-right s (start rs))) c n (stands-anywhere c s n (z .stands)))
+      go (found m k) e =
+          let (d, f) = longest-unique (scan-longest s m k e) z in
+          (k, e ∙ ap (λ (m : ℕ). found m k) f, d)
+
   -- a lexeme is not empty
   pub positive : (s : List ℕ) (c : Class) (n : ℕ) → Stands rs c s n → 0 < n
   positive s c zero (l, h) =

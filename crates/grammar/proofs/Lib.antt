@@ -4,6 +4,7 @@ pub mod States
 pub mod Model
 pub mod High
 pub mod Alike
+pub mod Follow
 pub mod Reach
 pub mod ClassLaws
 pub mod Unique

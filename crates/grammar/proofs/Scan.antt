@@ -38,7 +38,7 @@ goes-step q t r g b h =
 abbrev pub meets : State → Bool
 meets q = ltb 0 (length (met q))
 
-dead : (s : List ℕ) → scan [] s ≡ nothing
+pub dead : (s : List ℕ) → scan [] s ≡ nothing
 dead [] = refl
 dead (b ∷ s) = rw (dead s)
 

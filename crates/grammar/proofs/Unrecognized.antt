@@ -2,7 +2,7 @@
 use Prim.Native.Nat.{ℕ, zero, suc, _<_}
 use native.Mathlib.Nat.{not-suc-le-zero}
 use mathlib.Core.Path.{_≡_, refl, sym, _∙_, ap, subst}
-use mathlib.Core.Bool.{Bool, true, false, Bool·beq, true≢false}
+use mathlib.Core.Bool.{Bool, true, Bool·beq}
 use mathlib.Core.List.{List, [], _∷_}
 use mathlib.Core.Logic.{_↔_}
 use lib.Dec.{eqb}
@@ -15,7 +15,7 @@ use Rattle.grammar.specs.declared.profile.Profile.{Profile}
 use Rattle.grammar.specs.declared.profile.Profile.the-variants.{Turso, Sqlite}
 use Rattle.grammar.specs.Classes.{Class, unrecognized, U, operators, rules}
 use Rattle.grammar.specs.Longest.{Stands}
-use Rattle.grammar.proofs.Equivalences.{some-every}
+use Rattle.grammar.proofs.Equivalences.{beq-eq, some-every}
 use Rattle.grammar.proofs.States.{Left, State, ruleAt, start, step, after-in}
 use Rattle.grammar.proofs.High.{low, low-set, low-small}
 use Rattle.grammar.proofs.Reach.{below, below-at}
@@ -50,12 +50,6 @@ only-u π = refl
 class-u : (π : Profile) → ruleAt (rules π) u .class ≡ unrecognized
 unfolding rules
 class-u π = refl
-
-beq-eq : (a b : Bool) → Bool·beq a b ≡ true → a ≡ b
-beq-eq true true e = refl
-beq-eq true false e = absurd (true≢false (sym e))
-beq-eq false true e = absurd (true≢false (sym e))
-beq-eq false false e = refl
 
 module _ (π : Profile) where
   -- whether a lexeme's rule is that one, its first byte tells
