@@ -1,0 +1,3 @@
+pub mod Numbers
+pub mod Beside
+pub mod Settled
