@@ -24,6 +24,7 @@ use crate::modes::Mode;
 use crate::records;
 use crate::second::Profile;
 use crate::walk::Source;
+pub use alphabets::ALPHABETS;
 pub use complete::complete;
 use corpus::Corpus;
 use families::{Family, Plan};

@@ -1,6 +1,7 @@
 //! The published lexer of turso_parser 0.8.3, unchanged, answering on standard output; and Next stated a second time, for the profile
 //! that it does not have.
 
+mod ahead;
 mod answers;
 mod compare;
 mod kinds;
@@ -51,6 +52,7 @@ fn main() -> io::Result<ExitCode> {
         }
         ("replay", _) => records::answer(input(), &mut out, modes::print_replay)?,
         ("answers", _) => answers::print(&mut out).map(|()| true)?,
+        ("ahead", _) => ahead::ahead(&mut out)?,
         ("compare", _) => compare::compare(&mut out, &words[1..])?,
         ("second", _) => compare::second(&mut out, &words[1..])?,
         ("tokenizer", _) => compare::tokenizer(&mut out, &words[1..])?,

@@ -8,7 +8,7 @@ use crate::walk::{walk, Source, Stop};
 use std::io::{self, Write};
 
 pub const USAGE: &str = "\
-modes: next [PROFILE], sums [PROFILE], list N [PROFILE] (N 0 to 196605), cut [PROFILE], word, replay (records in, answers out); answers;
+modes: next [PROFILE], sums [PROFILE], list N [PROFILE] (N 0 to 196605), cut [PROFILE], word, replay (records in, answers out); answers; ahead;
 compare COUNT SEED FOLDER PROGRAM [ARG..]; second COUNT SEED FOLDER; tokenizer COUNT SEED FOLDER PROGRAM [ARG..];
 tokens PROGRAM [ARG..] (records in); complete COUNT SEED - PROGRAM [ARG..]. PROFILE is turso, also where none is named, or sqlite; FOLDER is - for none";
 

@@ -66,9 +66,9 @@ impl Lexeme {
     }
 }
 
-type Class = fn(Profile, &[u8]) -> Option<Lexeme>;
+pub type Class = fn(Profile, &[u8]) -> Option<Lexeme>;
 
-const CLASSES: [Class; 27] = [
+pub const CLASSES: [Class; 27] = [
     plain::blank_run,
     plain::line_comment,
     plain::block_comment,
@@ -101,12 +101,14 @@ const CLASSES: [Class; 27] = [
 /// How much of a text without a class, or with two, is shown.
 const SHOWN: usize = 60;
 
-/// The longest lexeme that begins what remains, which is not empty. It stands in exactly one class, or the program stops.
-pub fn next(profile: Profile, rest: &[u8]) -> Lexeme {
-    let (mut longest, mut classes) = (None::<Lexeme>, 0);
-    for lexeme in CLASSES.iter().filter_map(|class| class(profile, rest)) {
-        match lexeme.length.cmp(&longest.map_or(0, |longest| longest.length)) {
-            Ordering::Greater => (longest, classes) = (Some(lexeme), 1),
+/// The longest lexeme that begins what remains, which is not empty, with the place of its class. It stands in exactly one, or the
+/// program stops.
+pub fn longest(profile: Profile, rest: &[u8]) -> (usize, Lexeme) {
+    let (mut longest, mut classes) = (None::<(usize, Lexeme)>, 0);
+    for (place, class) in CLASSES.iter().enumerate() {
+        let Some(lexeme) = class(profile, rest) else { continue };
+        match lexeme.length.cmp(&longest.map_or(0, |(_, longest)| longest.length)) {
+            Ordering::Greater => (longest, classes) = (Some((place, lexeme)), 1),
             Ordering::Equal => classes += 1,
             Ordering::Less => {}
         }
@@ -114,4 +116,8 @@ pub fn next(profile: Profile, rest: &[u8]) -> Lexeme {
     let shown = rest[..rest.len().min(SHOWN)].escape_ascii();
     assert_eq!(classes, 1, "so many classes have the longest lexeme of: {shown}");
     longest.expect("a class has it")
+}
+
+pub fn next(profile: Profile, rest: &[u8]) -> Lexeme {
+    longest(profile, rest).1
 }
