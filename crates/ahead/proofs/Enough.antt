@@ -2,7 +2,7 @@
 use Prim.Native.Nat.{ℕ, _+_}
 use mathlib.Core.Path.{_≡_, refl, subst}
 use mathlib.Core.Bool.{Bool, true}
-use mathlib.Core.List.{List, _++_}
+use mathlib.Core.List.{List}
 use lib.ListN.{take}
 use Rattle.keywords.proofs.Logic.{every}
 use Rattle.words.specs.Bytes.{isDigit, isHexdigit, isIdentifierStart, isIdentifierContinue, isBlank}
@@ -14,15 +14,18 @@ use Rattle.ahead.specs.Ahead.{Agree, lookAhead}
 use Rattle.grammar.proofs.Equivalences.{some-every}
 use Rattle.grammar.proofs.States.{State, ruleAt, start, after, met, Met}
 use Rattle.grammar.proofs.Model.{Right, scan-right}
-use Rattle.grammar.proofs.High.{plain}
 use Rattle.grammar.proofs.Reach.{reaches, always}
 use Rattle.grammar.proofs.Lexemes
 use Rattle.grammar.proofs.Theorems.{sound}
-use Rattle.ahead.proofs.Tells.{after-append, tells, Tells, all-told, same-found}
+use Rattle.ahead.proofs.Tells.{tells, Tells, told-behind, same-found}
+
+-- how far the class of the k-th rule looks ahead
+abbrev pub look : Profile → ℕ → ℕ
+look p k = lookAhead p (ruleAt (rules p) k .class)
 
 -- where a rule is met, as many bytes as its class looks ahead tell what is still to come
 abbrev isEnough : Profile → State → Bool
-isEnough p q = every (λ k. tells (lookAhead p (ruleAt (rules p) k .class)) q) (met q)
+isEnough p q = every (λ k. tells (look p k) q) (met q)
 
 -- The computed test, of each profile.
 computed : (p : Profile) → reaches 100 (isEnough p) (start (rules p)) ≡ true
@@ -34,17 +37,11 @@ module _ (p : Profile) where
   abbrev Q : List ℕ → State
   Q w = after (start (rules p)) w
 
-  plain-behind : (u w : List ℕ) → every plain (after (Q u) w) ≡ true
-  plain-behind u w =
-      subst (λ (q : State). every plain q ≡ true) (after-append u w (start (rules p)))
-      (always 100 (isEnough p) (start (rules p)) (computed p) (u ++ w) .0)
-
-  told : (w : List ℕ) (k : ℕ) → Met k (Q w) → Tells (lookAhead p (ruleAt (rules p) k .class)) (Q w)
+  told : (w : List ℕ) (k : ℕ) → Met k (Q w) → Tells (look p k) (Q w)
   told w k m =
-      let look : ℕ → ℕ = λ k. lookAhead p (ruleAt (rules p) k .class) in
-      let passed = always 100 (isEnough p) (start (rules p)) (computed p) w .1 in
-      let (j, d, t) = some-every (λ k. tells (look k) (Q w)) (λ j. j ≡ k) (met (Q w)) passed m in
-      all-told (look k) (Q w) (plain-behind w) (subst (λ (k : ℕ). tells (look k) (Q w) ≡ true) d t)
+      let found = always 100 (isEnough p) (start (rules p)) (computed p) in
+      let (j, d, t) = some-every (λ k. tells (look p k) (Q w)) (λ j. j ≡ k) (met (Q w)) (found w .1) m in
+      told-behind (look p k) (start (rules p)) w (λ u. found u .0) (subst (λ (k : ℕ). tells (look p k) (Q w) ≡ true) d t)
 
   -- Two texts that agree in a lexeme of the class and in as many bytes more as it looks ahead have the same lexeme.
   pub enough : (s t : List ℕ) (c : Class) (n : ℕ) → Longest (rules p) s c n → Agree 0 (n + lookAhead p c) s t → Longest (rules p) t c n

@@ -39,7 +39,7 @@ ended-nil [] e = refl
 ended-nil (x ∷ q) e = absurd (true≢false (sym e))
 
 -- from a state out of which no text leads to one that names a byte above 7F
-pub all-told : (n : ℕ) (q : State) → ((w : List ℕ) → every plain (after q w) ≡ true) → tells n q ≡ true → Tells n q
+all-told : (n : ℕ) (q : State) → ((w : List ℕ) → every plain (after q w) ≡ true) → tells n q ≡ true → Tells n q
 all-told zero q h e = λ b.
     let t = below-at (λ b. ended (step b q)) 129 e (low b) (low-small b) in
     sym (low-step b q (h [])) ∙ ended-nil (step (low b) q) t
@@ -51,6 +51,10 @@ all-told (suc n) q h e = λ b.
     (λ x. ⊎-elim (λ y. inl (ended-nil r y)) (λ y. inr (inl y)) (or-iff (ended r) (meets r) .0 x))
     (λ x. inr (inr (all-told n r (λ w. h (b ∷ w)) x)))
     (or-iff (ended r || meets r) (tells n r) .0 u)
+
+-- the same behind a text
+pub told-behind : (n : ℕ) (q : State) (u : List ℕ) → ((w : List ℕ) → every plain (after q w) ≡ true) → tells n (after q u) ≡ true → Tells n (after q u)
+told-behind n q u h = all-told n (after q u) (λ w. subst (λ (r : State). every plain r ≡ true) (after-append u w q) (h (u ++ w)))
 
 -- nothing is found beyond the place itself
 not-onward : (f : Found) (l : List ℕ) → onward f l ≡ here l → f ≡ nothing

@@ -22,7 +22,8 @@ spanEnd (token k start n next d u) = start + n
 spanEnd (end at) = at
 spanEnd (refusal k start n at) = start + n
 
--- For each class how many bytes behind a lexeme tell that it ends there, under Turso and under Sqlite. The end of the text tells it too.
+-- For each class how many bytes behind a lexeme of it tell, at most, that it ends there, under Turso and under Sqlite. The end of the text
+-- tells it too.
 unfoldable pub lookAhead : Profile → Class → ℕ
 lookAhead p blankRun = 1
 lookAhead p lineComment = 1

@@ -19,13 +19,13 @@ pub record Seen (A : Type 0) : Type 0 where
   pub at : ℕ
   pub place : A
 
+-- the place behind a text, by where each byte leads
+abbrev pub goes : {A : Type 0} → (ℕ → A → A) → A → List ℕ → A
+goes go q [] = q
+goes go q (b ∷ w) = goes go (go b q) w
+
 -- where a byte leads from a place, the place's key, and whether two are the same
 module _ {A : Type 0} (go : ℕ → A → A) (key : A → ℕ) (same : A → A → Bool) where
-  -- behind a text
-  abbrev pub goes : A → List ℕ → A
-  goes q [] = q
-  goes q (b ∷ w) = goes (go b q) w
-
   -- the place is among them
   abbrev isAmong : ℕ → A → List (Seen A) → Bool
   isAmong k q [] = false
@@ -174,14 +174,14 @@ module _ {A : Type 0} (go : ℕ → A → A) (key : A → ℕ) (same : A → A �
       -- where the test passes the lowest bytes stand for all
       module _ (low-go : (b : ℕ) (q : A) → p q ≡ true → go (low b) q ≡ go b q) where
         -- no text leads out of them
-        stays : {q : A} (c : Closed q) (w : List ℕ) (r : A) → Known (c .all) r → Known (c .all) (goes r w)
+        stays : {q : A} (c : Closed q) (w : List ℕ) (r : A) → Known (c .all) r → Known (c .all) (goes go r w)
         stays c [] r h = h
         stays c (b ∷ w) r h =
             let (passed, into) = c .fine r h in
             stays c w (go b r) (subst (Known (c .all)) (low-go b r passed) (into (low b) (low-small b)))
 
         -- behind every text the test passes
-        pub found-always : (n : ℕ) (q : A) → finds n p q ≡ true → (w : List ℕ) → p (goes q w) ≡ true
+        pub found-always : (n : ℕ) (q : A) → finds n p q ≡ true → (w : List ℕ) → p (goes go q w) ≡ true
         found-always n q e w =
             let c = follow-closed n [] (record { at = key q; place = q } ∷ []) (λ s k. absurd k) e q (inr (inl refl)) in
-            c .fine (goes q w) (stays c w q (c .within)) .0
+            c .fine (goes go q w) (stays c w q (c .within)) .0

@@ -40,6 +40,6 @@ always n p q e w =
     let h = subst (λ (r : State). passes p r ≡ true) (same w q) (found-always step key alike alike-eq (passes p) low-go n q e w) in
     (and-left (every plain (after q w)) (p (after q w)) h, and-right (every plain (after q w)) (p (after q w)) h)
   where
-    same : (w : List ℕ) (q : State) → goes step key alike q w ≡ after q w
+    same : (w : List ℕ) (q : State) → goes step q w ≡ after q w
     same [] q = refl
     same (b ∷ w) q = same w (step b q)

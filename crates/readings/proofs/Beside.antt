@@ -17,12 +17,13 @@ use Rattle.readings.specs.declared.reading.Reading.{Reading}
 use Rattle.readings.specs.declared.reading.Reading.the-variants.{Start}
 use Rattle.readings.specs.Arrows.{Arrow, follow, arrows, onward, onwards, reading, isLexeme, isSettled}
 use Rattle.grammar.proofs.Equivalences.{beq-eq, or-iff}
-use Rattle.grammar.proofs.States.{State, ruleAt, start, step, after, met, Met}
+use Rattle.grammar.proofs.States.{State, start, step, after, met, Met}
 use Rattle.grammar.proofs.High.{plainSet, plain, low, low-set, low-step}
 use Rattle.grammar.proofs.Alike.{alike, alike-eq, key}
 use Rattle.grammar.proofs.Follow.{goes, finds, found-always}
 use Rattle.grammar.proofs.Scan.{meets}
 use Rattle.ahead.proofs.Tells.{after-append, tells}
+use Rattle.ahead.proofs.Enough.{look}
 use Rattle.readings.proofs.Numbers.{number, same-number}
 
 -- what is left of the rules, and the reading
@@ -61,7 +62,7 @@ some-byte (suc n) test e = ⊎-elim (λ h. (n, h)) (some-byte n test) (or-iff (t
 
 -- a rule is met, and its class looks ahead
 abbrev looksOn : Profile → State → Bool
-looksOn p q = meets q && every (λ k. ltb 0 (lookAhead p (ruleAt (rules p) k .class))) (met q)
+looksOn p q = meets q && every (λ k. ltb 0 (look p k)) (met q)
 
 -- The reading is a lexeme's where a rule is met; it is settled where every byte leads to nothing; where it is not, some byte leads on to
 -- a lexeme of a class that looks ahead.
@@ -105,7 +106,7 @@ module _ (p : Profile) where
 
   -- behind a text both are where it leads each of them
   together : (w : List ℕ) (q : State) (r : Reading)
-      → goes (go p) mark same (record { state = q; read = r }) w ≡ record { state = after q w; read = onwards p r w }
+      → goes (go p) (record { state = q; read = r }) w ≡ record { state = after q w; read = onwards p r w }
   unfolding onward
   together [] q r = refl
   together (b ∷ w) q r = together w (step b q) (follow (arrows p r) b)
@@ -139,12 +140,9 @@ module _ (p : Profile) where
       beq-eq (tells 0 (Q w)) (isSettled (reading p w))
       (and-right (isMet (both w)) (isDone (both w)) (and-left (isMet (both w) && isDone (both w)) (isOpen p (both w)) (agreed w)))
 
-  abbrev look : ℕ → ℕ
-  look k = lookAhead p (ruleAt (rules p) k .class)
-
   -- where it is not, some byte leads on to a rule met, whose class looks ahead
   pub reading-grows : (w : List ℕ) → isSettled (reading p w) ≡ false
-      → (b : ℕ) × (k : ℕ) × Met k (Q (w ++ b ∷ [])) × (0 < lookAhead p (ruleAt (rules p) k .class))
+      → (b : ℕ) × (k : ℕ) × Met k (Q (w ++ b ∷ [])) × (0 < look p k)
   reading-grows w e =
       let opens = and-right (isMet (both w) && isDone (both w)) (isOpen p (both w)) (agreed w) in
       let t = ⊎-elim (λ f. absurd (true≢false (sym f ∙ e))) (λ f. f) (or-iff (isSettled (reading p w)) _ .0 opens) in
@@ -154,6 +152,6 @@ module _ (p : Profile) where
       let (k, m, i) = first q (met q) refl (and-left (meets q) _ g) (and-right (meets q) _ g) in
       (b, k, m, i)
     where
-      first : (q : State) (l : List ℕ) → met q ≡ l → ltb 0 (length l) ≡ true → every (λ k. ltb 0 (look k)) l ≡ true → (k : ℕ) × Met k q × (0 < look k)
+      first : (q : State) (l : List ℕ) → met q ≡ l → ltb 0 (length l) ≡ true → every (λ k. ltb 0 (look p k)) l ≡ true → (k : ℕ) × Met k q × (0 < look p k)
       first q [] d h t = absurd (true≢false (sym h))
-      first q (k ∷ l) d h t = (k, rw d (inl refl), ltb-true 0 (look k) (and-left (ltb 0 (look k)) _ t))
+      first q (k ∷ l) d h t = (k, rw d (inl refl), ltb-true 0 (look p k) (and-left (ltb 0 (look p k)) _ t))

@@ -1,5 +1,5 @@
 -- What the reading of a text tells: whether it is a lexeme, and whether its first lexeme is settled. Assumes nothing.
-use Prim.Native.Nat.{ℕ, zero, suc, _+_, _≤_, _<_}
+use Prim.Native.Nat.{ℕ, suc, _+_, _≤_, _<_}
 use native.Mathlib.Omega.{arith}
 use mathlib.Core.Path.{_≡_, refl, sym, _∙_, ap, subst}
 use mathlib.Core.Bool.{Bool, true, false, _&&_, _||_, true≢false}
@@ -24,7 +24,7 @@ use Rattle.readings.specs.Settled.{Settled, Final}
 use Rattle.grammar.proofs.Equivalences.{or-iff}
 use Rattle.grammar.proofs.States.{State, ruleAt, start, step, after, met, Met, met-rule}
 use Rattle.grammar.proofs.Model.{Found, onward as further, scan}
-use Rattle.grammar.proofs.High.{plainSet, plain, low, low-small}
+use Rattle.grammar.proofs.High.{plainSet, low, low-small}
 use Rattle.grammar.proofs.Reach.{below, below-at}
 use Rattle.grammar.proofs.Scan.{meets}
 use Rattle.grammar.proofs.Theorems.{sound, one-class, look-ahead, grows as longer}
@@ -32,7 +32,7 @@ use Rattle.grammar.proofs.Unique.{longest-unique}
 use Rattle.grammar.proofs.Lexemes
 use Rattle.ahead.proofs.Enough.{enough}
 use Rattle.ahead.proofs.Spans.{span-near}
-use Rattle.ahead.proofs.Tells.{after-append, Tells, all-told, still-here}
+use Rattle.ahead.proofs.Tells.{after-append, Tells, told-behind, still-here}
 use Rattle.readings.proofs.Numbers.{readings, each-reading}
 use Rattle.readings.proofs.Beside.{follow-low, Q, plain-state, reading-meets, reading-tells, reading-grows}
 
@@ -108,10 +108,7 @@ module _ (p : Profile) where
   not-shorter w t c n e z = let (d, h) = lexeme-read w .0 e in longer p w t d c (length w) n (full w d h) z
 
   tells-nothing : (w : List ℕ) → isSettled (reading p w) ≡ true → Tells 0 (Q p w)
-  tells-nothing w e =
-      all-told 0 (Q p w)
-      (λ v. subst (λ (q : State). every plain q ≡ true) (after-append w v (start (rules p))) (plain-state p (w ++ v)))
-      (reading-tells p w ∙ e)
+  tells-nothing w e = told-behind 0 (start (rules p)) w (plain-state p) (reading-tells p w ∙ e)
 
   -- one that is not settled is the opening of a lexeme that has one byte more, and whose class looks ahead
   grows : (w : List ℕ) → isSettled (reading p w) ≡ false
