@@ -2,7 +2,7 @@
 -- nothing.
 use Prim.Native.Nat.{ℕ}
 use mathlib.Core.Bool.{Bool, true, false, not, cond}
-use mathlib.Core.List.{List, [], _∷_, _++_}
+use mathlib.Core.List.{List, [], _∷_}
 use Rattle.grammar.specs.declared.profile.Profile.{Profile}
 use Rattle.grammar.specs.Form.{Set, D, H, S, C, blank, no, _or_, any, oneOf, holds}
 use Rattle.grammar.specs.Classes.{U, by}
@@ -34,21 +34,21 @@ abbrev pub follow : List Arrow → ℕ → Reading
 follow [] b = Dead
 follow (x ∷ l) b = let more = follow l b in cond (holds (x .on) b) (x .to) more
 
--- from the start; what the profiles read otherwise comes first
-abbrev pub first : Profile → List Arrow
-first p =
-    by p
-    (char "&" to Operator Ampersand ∷ char "@" to Named At ∷ char ":" to Named Colon ∷ [])
-    (char "@" to Named Sigil ∷ char ":" to Named Sigil ∷ char "[" to Quoted Bracket ∷ [])
-    ++
-    blank to Run Blanks ∷ oneOf "xX" to Run X ∷ S or char "#" to Run Word ∷ U to Run Stray ∷
-    char "-" to Operator Minus ∷ char "/" to Operator Slash ∷ oneOf "=!" to Operator Equals ∷ char "<" to Operator Less ∷
-    char ">" to Operator Greater ∷ char "|" to Operator Bar ∷
+-- from the start by a byte that is no blank, letter or digit; of four of these the profile decides what they begin
+abbrev pub mark : Profile → List Arrow
+mark p =
+    char "." to Number Dot ∷ char "-" to Operator Minus ∷ char "/" to Operator Slash ∷ oneOf "=!" to Operator Equals ∷
+    char "<" to Operator Less ∷ char ">" to Operator Greater ∷ char "|" to Operator Bar ∷
     char "'" to Quoted Quote ∷ char "\"" to Quoted DoubleQuote ∷ char "`" to Quoted Backtick ∷
     char "$" to Named Sigil ∷ char "?" to Named Question ∷
-    char "0" to Number Zero ∷ D to Number Digits ∷ char "." to Number Dot ∷
-    any to Whole ∷
-    []
+    char "&" to by p (Operator Ampersand) Whole ∷ char "@" to by p (Named At) (Named Sigil) ∷
+    char ":" to by p (Named Colon) (Named Sigil) ∷ char "[" to by p Whole (Quoted Bracket) ∷
+    U to Run Stray ∷ any to Whole ∷ []
+
+-- from the start
+abbrev pub first : Profile → List Arrow
+first p =
+    blank to Run Blanks ∷ oneOf "xX" to Run X ∷ S or char "#" to Run Word ∷ char "0" to Number Zero ∷ D to Number Digits ∷ mark p
 
 abbrev pub inRun : R.Run → List Arrow
 inRun Blanks = blank to Run Blanks ∷ []
@@ -83,28 +83,29 @@ abbrev pub inNamed : N.Named → List Arrow
 inNamed Sigil = C to Named Name ∷ char ":" to Named SigilColon ∷ []
 inNamed SigilColon = char ":" to Named Sigil ∷ []
 inNamed Colon = S to Named Name ∷ char ":" to Named SigilColon ∷ []
-inNamed At = C to Named Name ∷ char ":" to Named SigilColon ∷ char ">" to Whole ∷ []
+inNamed At = char ">" to Whole ∷ C to Named Name ∷ char ":" to Named SigilColon ∷ []
 inNamed Name = C to Named Name ∷ char ":" to Named NameColon ∷ char "(" to Named Paren ∷ []
 inNamed NameColon = char ":" to Named Name ∷ []
 inNamed Paren = char ")" to Whole ∷ no blank to Named Paren ∷ []
 inNamed Question = D to Named Question ∷ []
 
+abbrev pub inDigits : List Arrow
+inDigits =
+    D to Number Digits ∷ char "." to Number DigitsDot ∷ char "_" to Number DigitsUnderscore ∷ oneOf "eE" to Number E ∷ S to Whole ∷ []
+
 -- behind `e` or its sign
-abbrev pub inExponent : Profile → List Arrow
-inExponent p = D to Number Exponent ∷ by p (char "_" to Number ExponentUnderscore ∷ []) []
+abbrev pub atExponent : Profile → List Arrow
+atExponent p = D to Number Exponent ∷ char "_" to by p (Number ExponentUnderscore) Dead ∷ []
 
 abbrev pub inNumber : Profile → M.Number → List Arrow
-inNumber p Zero =
-    D to Number Digits ∷ char "." to Number DigitsDot ∷ char "_" to Number DigitsUnderscore ∷ oneOf "eE" to Number E ∷
-    oneOf "xX" to Number ZeroX ∷ S to Whole ∷ []
-inNumber p Digits =
-    D to Number Digits ∷ char "." to Number DigitsDot ∷ char "_" to Number DigitsUnderscore ∷ oneOf "eE" to Number E ∷ S to Whole ∷ []
+inNumber p Zero = oneOf "xX" to Number ZeroX ∷ inDigits
+inNumber p Digits = inDigits
 inNumber p DigitsUnderscore = D to Number Digits ∷ []
 inNumber p DigitsDot = D to Number Fraction ∷ oneOf "eE" to Number E ∷ []
 inNumber p Dot = D to Number Fraction ∷ []
 inNumber p Fraction = D to Number Fraction ∷ char "_" to Number Dot ∷ oneOf "eE" to Number E ∷ S to Whole ∷ []
-inNumber p E = oneOf "+-" to Number Sign ∷ inExponent p
-inNumber p Sign = inExponent p
+inNumber p E = oneOf "+-" to Number Sign ∷ atExponent p
+inNumber p Sign = atExponent p
 inNumber p Exponent = D to Number Exponent ∷ char "_" to Number ExponentUnderscore ∷ S to Whole ∷ []
 inNumber p ExponentUnderscore = D to Number Exponent ∷ []
 inNumber p ZeroX = H to Number Hex ∷ char "_" to Whole ∷ []
