@@ -1,2 +1,3 @@
-// What has been read of a lexeme: as little as tells whether it is one and whether it can still grow. Types alone, no function.
+// What has been read of a lexeme: as little as tells whether it is one and whether it can still grow.
 pub mod reading;
+pub mod tells;
