@@ -2,12 +2,12 @@
 use Prim.Native.Nat.{ℕ, _+_, _-_, _≤_, _<_}
 use native.Mathlib.Omega.{arith}
 use mathlib.Core.Path.{_≡_, refl, sym, _∙_, ap}
-use mathlib.Core.Bool.{Bool, true, false, _&&_, _||_, true≢false}
+use mathlib.Core.Bool.{true, false, _&&_, true≢false}
 use mathlib.Core.Logic.{_⊎_, inl, inr}
 use mathlib.Core.List.{List, [], _∷_}
 use lib.Dec.{eqb}
 use lib.ListN.{length, drop}
-use Rattle.keywords.proofs.Logic.{split}
+use Rattle.keywords.proofs.Logic.{split, or-false}
 use Rattle.words.specs.Bytes.{isDigit, isHexdigit, isIdentifierStart, isIdentifierContinue, isBlank}
 use Rattle.grammar.specs.declared.profile.Profile.{Profile}
 use Rattle.grammar.specs.declared.profile.Profile.the-variants.{Turso, Sqlite}
@@ -50,10 +50,6 @@ steps : (π : Profile) → Steps π
 unfolding behind behindUnder rules operators isDigit isHexdigit isIdentifierStart isIdentifierContinue isBlank
 steps Turso = record { sign = refl; stop = refl; rule = refl; sign-stop = refl; sign-rule = refl }
 steps Sqlite = record { sign = refl; stop = refl; rule = refl; sign-stop = refl; sign-rule = refl }
-
-or-false : (a : Bool) → a || false ≡ a
-or-false true = refl
-or-false false = refl
 
 -- what may begin an exponent's digits, as it is tested
 pub begins-digit : {π : Profile} → π ≡ Turso → (l : List ℕ) → sees D l ≡ true → true ≡ sees (exponentStart π) l
