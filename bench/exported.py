@@ -35,7 +35,9 @@ def call(code, name, parameters):
 
 
 def main(source, module):
-    code = without(without(open(module).read(), "main"), '"capi::main"')
+    code = open(module).read()
+    for name in "main", re.search(r'@("\w+::main")\(\)', code)[1]:
+        code = without(code, name)
     print(code + "\n".join(call(code, *found) for found in EXPORTED.findall(open(source).read())))
 
 

@@ -12,17 +12,18 @@ KIT = pathlib.Path(run("rt", "doc").strip()).parent.parent / "on" / os.uname().m
 # What is measured: the proved archive and its module; or, with bench/run --unproved, the module of a source that nothing proves.
 UNPROVED = "BENCH_UNPROVED" in os.environ
 KEPT = OUT / "unproved" if UNPROVED else OUT
-ARCHIVE, MODULE = ROOT / "target/staticlib/libcapi.a", KEPT / "module.bc"
+ARCHIVE = ROOT / "target/staticlib/libcapi.a"
 X86_TARGET, UNPACKED = "x86_64-unknown-linux-gnu", OUT / "rustc/usr"  # what bench/setup unpacks
+STEP = "steps::step::step"
 REAL_MEMCHR = pathlib.Path("/usr/share/cargo/registry/memchr-2.5.0/src/lib.rs")
 # bench/setup fetches the source, which is compiled for both machines; Debian's library is x86-64 code.
 SQLITE_SOURCE, SQLITE_LIBRARY = OUT / "sqlite", pathlib.Path("/usr/lib/x86_64-linux-gnu/libsqlite3.a")
 M4_TARGET, M4_LAYOUT = "thumbv7em-none-unknown-eabi", "e-m:e-p:32:32-Fi8-i64:64-v128:64:128-a:0:32-n32-S64"
 
 
-def kit_flags(machine):
-    """The words that the kit's clang was given for the archive, but for files; for the M4 without those that name the processor."""
-    words = (KEPT / "flags").read_text().split("\n")
+def kit_flags(machine, kept):
+    """The words that the kit's clang was given for a module, but for files; for the M4 without those that name the processor."""
+    words = (kept / "flags").read_text().split("\n")
     words = words[:words.index("-c")] + [word for word in words if word in ("-fPIC", "-O3")]
     if machine is X86:
         return words
@@ -30,20 +31,30 @@ def kit_flags(machine):
     return words + [f"--target={M4_TARGET}", "-mcpu=cortex-m4", "-mfloat-abi=soft", "-Wno-override-module"]
 
 
-def module_for_m4():
-    """The module for x86-64 made one for the M4 by its head and attributes alone: its usize stays 64 bits wide. For measuring only."""
-    text = OUT / "m4.ll"
-    as_it_is = ["-x", "ir", MODULE, "-O0", "-Xclang", "-disable-llvm-passes"]
+def module_for(machine, kept, apart):
+    """The module that was kept. Made one for the M4 by its head and attributes alone: its usize stays 64 bits wide, for measuring only. And
+    with a function that is not to be inlined, where one is to stand apart."""
+    if machine is X86 and not apart:
+        return kept / "module.bc"
+    text = OUT / f"{machine.name}.ll"
+    as_it_is = ["-x", "ir", kept / "module.bc", "-O0", "-Xclang", "-disable-llvm-passes"]
     run(KIT / "clang", f"--target={X86_TARGET}", *as_it_is, "-S", "-emit-llvm", "-o", text)
-    code = re.sub(r"(?m)^target datalayout.*", f'target datalayout = "{M4_LAYOUT}"', text.read_text())
-    code = re.sub(r"(?m)^target triple.*", f'target triple = "{M4_TARGET}"', code)
-    text.write_text(re.sub(r' "(probe-stack|target-cpu)"="[^"]*"', "", code))
+    code = text.read_text()
+    if apart:
+        code, found = re.subn(rf'(?m)^(define .*@"{apart}"\(.*\)) #', r"\1 noinline #", code)
+        if found != 1:
+            raise SystemExit(f"bench: FAIL: the module has no function {apart}")
+    if machine is M4:
+        code = re.sub(r"(?m)^target datalayout.*", f'target datalayout = "{M4_LAYOUT}"', code)
+        code = re.sub(r"(?m)^target triple.*", f'target triple = "{M4_TARGET}"', code)
+        code = re.sub(r' "(probe-stack|target-cpu)"="[^"]*"', "", code)
+    text.write_text(code)
     return text
 
 
-def compile_library(machine, output, *flags):
-    """The library's module, with the kit's clang."""
-    run(KIT / "clang", *kit_flags(machine), *(flags or ["-c"]), "-x", "ir", module_for_m4() if machine is M4 else MODULE, "-o", output)
+def compile_library(machine, output, *flags, kept=KEPT, apart=None):
+    """A module, the library's if no other is named, with the kit's clang."""
+    run(KIT / "clang", *kit_flags(machine, kept), *(flags or ["-c"]), "-x", "ir", module_for(machine, kept, apart), "-o", output)
     return output
 
 
@@ -55,6 +66,20 @@ def is_archives(file):
 def of_list(machine):
     proved = machine is X86 and not UNPROVED
     return [ARCHIVE if proved else compile_library(machine, OUT / f"capi.{machine.name}.o")]
+
+
+@functools.cache
+def walk_module():
+    run(HERE / "walk", OUT / "walk")
+    return OUT / "walk"
+
+
+@functools.cache
+def walk(machine, apart=None, form="o"):
+    """The walk by `step`, compiled: an object or, with stack sizes, assembly."""
+    flags = ["-S", "-fstack-size-section"] if form == "s" else []
+    name = "step" if apart else "walk"
+    return compile_library(machine, OUT / f"{name}.{machine.name}.{form}", *flags, kept=walk_module(), apart=apart)
 
 
 def has_x86(libraries):
@@ -122,6 +147,9 @@ LEXERS = {  # the symbol of List, what is linked, flags of the measuring program
     "List": ("sqllex_list", of_list, ["-DPROFILE=0"]),
     "List:sqlite": ("sqllex_list", of_list, ["-DPROFILE=1"]),  # under the other profile
     "cut": ("sqllex_cut", of_list, ["-DPROFILE=0", "-DCUTS"]),
+    "walk": ("steps_walk", lambda machine: [walk(machine)], ["-DPROFILE=0"]),
+    "walk:sqlite": ("steps_walk", lambda machine: [walk(machine)], ["-DPROFILE=1"]),
+    "step": ("steps_walk", lambda machine: [walk(machine, STEP)], ["-DPROFILE=0"]),  # the same, with `step` a function of its own
     "Rust": ("rust_list", of_rust, []),
     "Rust+": ("rust_list", of_rust_with_real_memchr, []),
     "SQLite": ("sqlite_list", of_sqlite, []),

@@ -6,6 +6,7 @@ import sys
 
 from lexers import KIT, SQLITE_SOURCE, UNPROVED, compile_library, is_archives
 from machines import M4, OUT, X86, Missing, run
+from readings import a_step, code, figures, same_lexemes
 from space import linked, sizes, stacks
 from speed import cuts, growth, instructions, length, profile, same_lists, total
 
@@ -13,6 +14,8 @@ MOST_STACK = 768  # bytes
 MOST_LOOKUP = 2400  # bytes
 MOST_INSTRUCTIONS = {X86: 50, M4: 60}  # a byte
 MOST_GROWTH = 1  # percent from linear
+MOST_STEP = 30  # instructions
+MOST_STEPS_CODE = 2600  # bytes
 
 
 def part(title, measure, *arguments):
@@ -45,9 +48,9 @@ def test(what, value, most):
     return value <= most
 
 
-def test_count(what, machine, lexer, most):
+def try_test(what, measure, most):
     try:
-        return test(what, round(total(machine, lexer, "sync") / length("sync"), 2), most)
+        return test(what, measure(), most)
     except Missing as why:
         print(f"SKIPPED  {what}: {why}")
         return True
@@ -61,6 +64,9 @@ def main():
     part("Instructions a byte, Cortex-M4", instructions, M4, ours if UNPROVED else [*ours, "Rust", "SQLite"])
     for machine in X86, M4:
         part(f"The cut of all statements, instructions a byte of the text sync, {machine.name}", cuts, machine)
+    part("The walk by step", same_lexemes)
+    for machine in X86, M4:
+        part(f"The walk by step, instructions of the text sync, {machine.name}", figures, machine)
     worst = part("How List grows, x86-64: one text once, twice and four times", growth)
     bounds = [part(f"Stack in bytes, {machine.name}", stacks, machine) for machine in (X86, M4)]
     _, lookup = [part(f"Code size in bytes, {machine.name}", sizes, machine) for machine in (X86, M4)]
@@ -72,7 +78,10 @@ def main():
     good &= test("the lookup of a word with its tables, in bytes, Cortex-M4", lookup, MOST_LOOKUP)
     for machine, most in MOST_INSTRUCTIONS.items():
         for lexer in ours:
-            good &= test_count(f"{lexer}, instructions a byte of the text sync, {machine.name}", machine, lexer, most)
+            a_byte = lambda: round(total(machine, lexer, "sync") / length("sync"), 2)
+            good &= try_test(f"{lexer}, instructions a byte of the text sync, {machine.name}", a_byte, most)
+    good &= try_test("a step, instructions as a function of its own, text sync, x86-64", lambda: a_step(X86), MOST_STEP)
+    good &= try_test("the walk by step, bytes of code, Cortex-M4", lambda: code(M4), MOST_STEPS_CODE)
     if worst is None:
         print("SKIPPED  growth: nothing was counted")
     else:
