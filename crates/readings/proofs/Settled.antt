@@ -99,19 +99,19 @@ module _ (p : Profile) where
       back (c, h) = let (k, m) = stands-met w c h in sym (reading-meets p w) ∙ some-met k (met (Q p w)) m
 
   -- one that has the form of a class is its own longest lexeme
-  full : (w : List ℕ) (c : Class) → Stands (anywhere (rules p)) c w (length w) → Longest (rules p) w c (length w)
+  pub full : (w : List ℕ) (c : Class) → Stands (anywhere (rules p)) c w (length w) → Longest (rules p) w c (length w)
   full w c h =
       look-ahead p w c (length w) .1
       (record { stands = h; longest = λ d m t. t .0; alone = λ d t. one-class p w (length w) d c t h })
 
-  not-shorter : (w t : List ℕ) (c : Class) (n : ℕ) → isLexeme (reading p w) ≡ true → Longest (rules p) (w ++ t) c n → length w ≤ n
+  pub not-shorter : (w t : List ℕ) (c : Class) (n : ℕ) → isLexeme (reading p w) ≡ true → Longest (rules p) (w ++ t) c n → length w ≤ n
   not-shorter w t c n e z = let (d, h) = lexeme-read w .0 e in longer p w t d c (length w) n (full w d h) z
 
   tells-nothing : (w : List ℕ) → isSettled (reading p w) ≡ true → Tells 0 (Q p w)
   tells-nothing w e = told-behind 0 (start (rules p)) w (plain-state p) (reading-tells p w ∙ e)
 
   -- one that is not settled is the opening of a lexeme that has one byte more, and whose class looks ahead
-  grows : (w : List ℕ) → isSettled (reading p w) ≡ false
+  pub grows : (w : List ℕ) → isSettled (reading p w) ≡ false
       → (b : ℕ) × (c : Class) × (0 < lookAhead p c) × Stands (anywhere (rules p)) c (w ++ b ∷ []) (length (w ++ b ∷ []))
   grows w e = let (b, k, m, i) = reading-grows p w e in (b, ruleAt (rules p) k .class, i, met-stands (w ++ b ∷ []) k m)
 
@@ -198,7 +198,7 @@ module _ (p : Profile) where
       shorter-gives (inr (inr (h, d))) = inr (inr (some, shorter (subst (λ (u : List ℕ). Lexeme (rules p) u at a) more d)))
 
   -- where a text and one byte more are a lexeme, an answer whose span ends with it is none of the text's
-  differ : (w : List ℕ) (b : ℕ) (c : Class) → Longest (rules p) (w ++ b ∷ []) c (length (w ++ b ∷ [])) → (a : Answer)
+  pub differ : (w : List ℕ) (b : ℕ) (c : Class) → Longest (rules p) (w ++ b ∷ []) c (length (w ++ b ∷ [])) → (a : Answer)
       → spanEnd a ≡ length (w ++ b ∷ []) → Gives (rules p) w 0 a → ⊥
   differ w b c z a e (inl (h, d)) = omega arith
   differ w b c z a e (inr (inl (h, d))) = omega (arith, ap spanEnd d, length-append w (b ∷ []))
