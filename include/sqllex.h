@@ -1,22 +1,30 @@
 /*
- * sqllex.h: a SQL lexer for C and C++. examples/tokens.c calls sqllex_list_from, examples/tokens.rs sqllex_next from Rust.
+ * sqllex.h: a SQL lexer for C and C++. examples/tokens.c calls sqllex_list_from, examples/stream.c lexes a text in small parts, and
+ * examples/tokens.rs calls sqllex_next from Rust.
  *
  * Declares the calls of target/staticlib/libcapi.a, which `rt staticlib capi` proves and builds from crates/capi. The archive is
  * code for x86-64 Linux, needs no other library, and follows that system's calling convention, SSE registers and the red zone
  * included. tests/header fails where this file and the code part ways.
  *
  * What every call does. It returns, whatever the bytes; a text may hold any bytes, zeros too, and needs no zero behind it. It reads
- * the text alone, and writes only the list's first numbers and the answer, as said below. It uses no heap, no variable of its own
- * outside the stack and no call of the system, so that any number of threads may call at once, on one text too.
+ * the text alone, and writes only the list's first numbers and the answer, as said below; a call of a stream reads the stream, the
+ * row and the part alone, and writes only the stream, the row and what is given. It uses no heap, no variable of its own outside the
+ * stack and no call of the system, so that any number of threads may call at once, on one text too, each with its own list and answer,
+ * or its own stream, row and place for what is given.
  *
  * What a caller owes. Nothing tests these: a call that breaks one has no meaning.
- * - A text or a word is two arguments, where its first byte is and how many bytes there are; a list as well, where its length is
- *   the number of its uint32_t (not of bytes, not of records). So many must be there, in one object that lives until the call
- *   returns. With a length of 0 nothing is read or written there, and the pointer may be null.
- * - A list is aligned as uint32_t is, and an answer as size_t is; an answer is never null. Neither needs values beforehand.
- * - Text, list and answer of one call do not overlap, and nobody else writes to them while it runs: no thread, interrupt or DMA.
+ * - A text, a part of one or a word is two arguments, where its first byte is and how many bytes there are; a list as well, where its
+ *   length is the number of its uint32_t (not of bytes, not of records). So many must be there, in one object that lives until the
+ *   call returns. With a length of 0 nothing is read or written there, and the pointer may be null.
+ * - A row has SQLLEX_ROW_LENGTH bytes.
+ * - A list and a stream are aligned as uint32_t is, an answer and what is given as size_t is; an answer, a stream, a row and what is
+ *   given are never null. None needs values beforehand, but that a stream is begun first.
+ * - Text, list and answer of one call do not overlap, nor do stream, row, part and what is given; and nobody else writes to them while
+ *   it runs: no thread, interrupt or DMA.
  * - An offset may be any number. One past the end is refused and reads nothing.
  * - A profile may be any number. With one that is neither of the two below nothing is read or written.
+ * - Stream and row are the caller's, who leaves both as they are between the calls of one text. A call that finds other numbers or
+ *   bytes in them has a meaning still: it does what every call does, but its answer says nothing of a text.
  */
 #ifndef SQLLEX_H
 #define SQLLEX_H
@@ -28,13 +36,13 @@
 #endif
 
 /*
- * What a call says beside its status. With SQLLEX_UNKNOWN_PROFILE a call writes none of the six, with any other status all. `start`
- * and `length` are a span of the text in bytes; places count from the text's first byte, wherever lexing began. `next` is the offset
- * to go on from after a find or a full list; after a refusal see each call. `digits` and `underscores` are those of a number that
- * sqllex_next finds; else both are 0.
+ * What a call says beside its status. With SQLLEX_UNKNOWN_PROFILE and SQLLEX_UNKNOWN_STREAM a call writes none of the six, with any
+ * other status all. `start` and `length` are a span of the text in bytes; places count from the text's first byte, wherever lexing
+ * began, and of a stream from the first byte of all parts. `next` is the offset to go on from after a find or a full list; after a
+ * refusal see each call. `digits` and `underscores` are those of a number that sqllex_next or a stream finds; else both are 0.
  */
 typedef struct sqllex_answer {
-    size_t value; /* the kind (next), the number of records (list_from), whether tokens came (cut) */
+    size_t value; /* the kind (next, a stream), the number of records (list_from), whether tokens came (cut) */
     size_t start;
     size_t length;
     size_t next;
@@ -42,15 +50,38 @@ typedef struct sqllex_answer {
     size_t underscores;
 } sqllex_answer;
 
+/* What a call of a stream says beside its status: an answer, and how many bytes of the part it took, from the first on. */
+typedef struct sqllex_given {
+    sqllex_answer answer;
+    size_t taken;
+} sqllex_given;
+
+/*
+ * A stream between its calls; sqllex_stream_begin sets all six. They hold no address: stream and row may be copied, together, and gone
+ * on with elsewhere.
+ */
+typedef struct sqllex_stream {
+    uint32_t profile;
+    uint32_t phase;   /* 0, parts are taken; 1, finish calls alone; 2, every call is refused */
+    uint32_t reading; /* what was read of a lexeme, 0 to 46 */
+    uint32_t given;   /* so many bytes at the row's front are the token given last */
+    uint32_t held;    /* so many bytes at the row's front are in use */
+    uint32_t total;   /* so many bytes were taken */
+} sqllex_stream;
+
 #if defined(__cplusplus) && __cplusplus >= 201103L
 static_assert(sizeof(sqllex_answer) == 48, "the library's answers are six words of 8 bytes");
+static_assert(sizeof(sqllex_given) == 56, "what a stream gives is seven words of 8 bytes");
+static_assert(sizeof(sqllex_stream) == 24, "the library's streams are six words of 4 bytes");
 #elif defined(__STDC_VERSION__) && __STDC_VERSION__ >= 201112L
 _Static_assert(sizeof(sqllex_answer) == 48, "the library's answers are six words of 8 bytes");
+_Static_assert(sizeof(sqllex_given) == 56, "what a stream gives is seven words of 8 bytes");
+_Static_assert(sizeof(sqllex_stream) == 24, "the library's streams are six words of 4 bytes");
 #endif
 
 /*
- * Profiles: whose SQL is lexed. Each call that lexes takes one. SQLLEX_TURSO lexes as turso_parser does; SQLLEX_SQLITE is nearer
- * SQLite, and differs in this alone:
+ * Profiles: whose SQL is lexed. Each call that lexes takes one; a stream keeps the one it was begun with. SQLLEX_TURSO lexes as
+ * turso_parser does; SQLLEX_SQLITE is nearer SQLite, and differs in this alone:
  * - `[` up to the first `]` is a name: one token of kind SQLLEX_TK_ID. Without a `]` it is refused, to the text's end, as
  *   SQLLEX_UNTERMINATED_LITERAL.
  * - `:` begins a parameter as `@` does: `:2` is one, and a `:` without a name is refused as SQLLEX_UNRECOGNIZED_TOKEN.
@@ -65,7 +96,10 @@ _Static_assert(sizeof(sqllex_answer) == 48, "the library's answers are six words
 #define SQLLEX_TURSO 0u
 #define SQLLEX_SQLITE 1u
 
-/* Statuses: 0, nothing is left; 1 to 99, a refusal, 99 that of a number that is no profile's; from 100 on, a find. */
+/*
+ * Statuses: 0, nothing is left; 1 to 99, a refusal, 99 that of a number that is no profile's, 98 that of six numbers that are no
+ * stream's; 100 to 102, a find; 103, a stream wants more bytes.
+ */
 #define SQLLEX_END 0u
 #define SQLLEX_UNRECOGNIZED_TOKEN 1u
 #define SQLLEX_UNTERMINATED_LITERAL 2u
@@ -77,16 +111,24 @@ _Static_assert(sizeof(sqllex_answer) == 48, "the library's answers are six words
 #define SQLLEX_OFFSET_PAST_END 8u
 #define SQLLEX_TOO_LONG 9u
 #define SQLLEX_LIST_FULL 10u
+#define SQLLEX_LEXEME_TOO_LONG 14u
+#define SQLLEX_CLOSED 15u
+#define SQLLEX_UNKNOWN_STREAM 98u
 #define SQLLEX_UNKNOWN_PROFILE 99u
 #define SQLLEX_TOKEN 100u
 #define SQLLEX_CUT 101u
 #define SQLLEX_OPEN 102u
+#define SQLLEX_MORE 103u
 
 /* The longest text that list and list_from take, in bytes. next and cut take any. */
 #define SQLLEX_LONGEST_TEXT 65535u
 
 /* How many numbers a record of a list has: kind, start, length. Three for each byte of the text are always enough. */
 #define SQLLEX_RECORD_WIDTH 3u
+
+/* The longest lexeme that a stream takes, and how long its row is, in bytes: such a lexeme and two more. */
+#define SQLLEX_LONGEST_LEXEME 2048u
+#define SQLLEX_ROW_LENGTH 2050u
 
 /* How many kinds there are; they are numbered from 0. docs/KINDS.md has the words and forms of each. */
 #define SQLLEX_KINDS_COUNT 176u
@@ -271,6 +313,7 @@ _Static_assert(sizeof(sqllex_answer) == 48, "the library's answers are six words
 /*
  * The kinds and the refusals once more, in the order of their numbers, for tables. X is a macro of yours that takes a kind as
  * TK_NONE, or a refusal as UNRECOGNIZED_TOKEN, UnrecognizedToken: the constant without SQLLEX_, and the name that sqllex prints.
+ * Kinds leave no number out; the refusals have neither 0 nor 11 to 13.
  *
  *     #define NAME(kind) #kind,
  *     static const char *const kind_names[] = {SQLLEX_KINDS(NAME)};
@@ -307,7 +350,9 @@ _Static_assert(sizeof(sqllex_answer) == 48, "the library's answers are six words
     X(EXPECTED_EQUALS_SIGN, ExpectedEqualsSign) \
     X(OFFSET_PAST_END, OffsetPastEnd) \
     X(TOO_LONG, TooLong) \
-    X(LIST_FULL, ListFull)
+    X(LIST_FULL, ListFull) \
+    X(LEXEME_TOO_LONG, LexemeTooLong) \
+    X(CLOSED, Closed)
 
 #ifdef __cplusplus
 extern "C" {
@@ -387,6 +432,79 @@ uint32_t sqllex_word_kind(const uint8_t *word, size_t word_length);
 
 /* Whether the word is a keyword other than TYPE, ASCII letters in capitals or not. */
 bool sqllex_is_quotable_keyword(const uint8_t *word, size_t word_length);
+
+/*
+ * A stream lexes a text that comes in parts of any lengths, and need never be whole in memory. It is begun; each part is offered, and
+ * what was not taken of it offered again; when no part comes any more, finish calls give what is left. `receive` and `use` are yours:
+ *
+ *     sqllex_stream stream;
+ *     uint8_t row[SQLLEX_ROW_LENGTH];
+ *     sqllex_given given;
+ *     uint32_t status = sqllex_stream_begin(SQLLEX_TURSO, &stream);
+ *     while (status == SQLLEX_MORE && receive(&part, &part_length))
+ *         while ((status = sqllex_stream_offer(&stream, row, part, part_length, &given)) == SQLLEX_TOKEN) {
+ *             use(&given.answer, row);
+ *             part += given.taken;
+ *             part_length -= given.taken;
+ *         }
+ *     if (status == SQLLEX_MORE)
+ *         while ((status = sqllex_stream_finish(&stream, row, &given)) == SQLLEX_TOKEN)
+ *             use(&given.answer, row);
+ *
+ * However a text is parted, the tokens, their places and the first refusal are those that sqllex_next gives of all the bytes taken,
+ * called from token to token; but a stream refuses a lexeme of more than SQLLEX_LONGEST_LEXEME bytes, and a text of more than
+ * 4294967295.
+ *
+ *     status                   value  start        length       next                 taken
+ *     SQLLEX_TOKEN             kind   its start    its length   start + length       what settles it
+ *     SQLLEX_MORE              0      0            0            0                    part_length
+ *     SQLLEX_END               0      the total    0            the total            0
+ *     1 to 7                   0      of the span  of the span  as sqllex_next's     what settles it
+ *     SQLLEX_LEXEME_TOO_LONG   0      last         0            last                 what settles it
+ *     SQLLEX_TOO_LONG          0      last         0            last                 0
+ *     SQLLEX_CLOSED            0      last         0            last                 0
+ *     SQLLEX_UNKNOWN_STREAM    nothing is written
+ *
+ * `last` is the end of the token given last, 0 before any. No more of a part is taken than settles the answer, so that no byte to come
+ * can alter it: the lexeme and at most two bytes behind it. Those two are held in the row for the next call, so that `taken` may be 0,
+ * and a token may come from a part of no bytes.
+ *
+ * Where a token is given its bytes are row[0] to row[length - 1], until the next call with that row: a caller can read a number, a name
+ * or a string there, wherever the parts began and ended.
+ *
+ * SQLLEX_MORE: the whole part was taken, and bytes to come could alter the next answer. Offer the next part, or finish.
+ *
+ * SQLLEX_LEXEME_TOO_LONG: the longest lexeme at `last`, legal or malformed, has more than SQLLEX_LONGEST_LEXEME bytes. Blanks and
+ * comments are lexemes too. A finish call never has this status.
+ *
+ * SQLLEX_TOO_LONG: the bytes taken before and this part are more than 4294967295 together. None of the part is taken, and what is held
+ * gives no token any more.
+ *
+ * SQLLEX_CLOSED: the stream takes no part any more, or no call at all. After a finish call every part is refused so, and finish calls
+ * go on; after SQLLEX_END or a refusal other than SQLLEX_CLOSED every call is. It changes neither stream nor row, and comes before any
+ * other status but SQLLEX_UNKNOWN_STREAM. To lex another text, begin again.
+ *
+ * SQLLEX_UNKNOWN_STREAM: six numbers that are no stream's, its profile being greater than 1, its phase greater than 2 or its reading
+ * greater than 46.
+ */
+
+/*
+ * Begins a stream under a profile. Its status is SQLLEX_MORE: the stream wants its first part. With a number that is no profile's it is
+ * SQLLEX_UNKNOWN_PROFILE, and nothing is written.
+ */
+uint32_t sqllex_stream_begin(uint32_t profile, sqllex_stream *stream);
+
+/*
+ * Offers a part, which may be of no bytes. While a token comes, offer the rest again, what was not taken, also where that is nothing;
+ * until the status is SQLLEX_MORE, or a refusal. Of a stream that was begun it is never SQLLEX_END.
+ */
+uint32_t sqllex_stream_offer(sqllex_stream *stream, uint8_t *row, const uint8_t *part, size_t part_length, sqllex_given *given);
+
+/*
+ * No part comes any more: the next token of the bytes that are held. Call it until the status is SQLLEX_END, or a refusal. It takes
+ * nothing, and its status is never SQLLEX_MORE.
+ */
+uint32_t sqllex_stream_finish(sqllex_stream *stream, uint8_t *row, sqllex_given *given);
 
 #ifdef __cplusplus
 }

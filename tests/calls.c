@@ -1,14 +1,15 @@
 /*
- * calls.c: every call of include/sqllex.h, with each text, list and answer beside a page that cannot be touched. tests/library runs it.
+ * calls.c: every call of include/sqllex.h, with all that it is lent beside a page that cannot be touched. tests/library runs it.
  *
  * calls PLACE next|sums|list N|cut [turso|sqlite]  reads records as sqlbatch does, and prints what sqlbatch prints of them
+ * calls PLACE stream [turso|sqlite]                the same, of records that are scripts of a stream's calls
  * calls PLACE word                                 the same, of records that are words
  * calls PLACE replay                               prints what the program replay prints of them
  * calls PLACE edges                                tries the calls that stand below with their answers
  *
- * PLACE, front or back, says where a text, list or answer lies in its room between two such pages: at its beginning or at its end.
- * In every mode what a call must leave alone is seen to be as it was: the bytes beside the answer and the list, the list's numbers
- * behind the records, and the text, which cannot be written.
+ * PLACE, front or back, says where a text, list, answer, stream or row lies in its room between two such pages: at its beginning or at
+ * its end. In every mode what a call must leave alone is seen to be as it was: the bytes beside all that is written, the list's numbers
+ * behind the records, the row's bytes behind those held, and the text or part, which cannot be written.
  */
 #define _DEFAULT_SOURCE
 #include <stdio.h>
@@ -20,8 +21,9 @@
 #include "sqllex.h"
 
 #define TEXT_MOST 70000u
+#define ROW_LENGTH SQLLEX_ROW_LENGTH
 #define LIST_MOST (SQLLEX_LONGEST_TEXT * SQLLEX_RECORD_WIDTH + 4)
-#define BESIDE 64u    /* bytes beside a list or an answer that are looked at */
+#define BESIDE 64u    /* bytes beside what is lent that are looked at */
 #define OLD_BYTE 0xff /* what all these are before a call */
 #define OLD 4294967295
 
@@ -48,7 +50,7 @@ struct room {
     unsigned char *bytes;
     size_t size;
 };
-static struct room text_room, list_room, answer_room;
+static struct room text_room, list_room, answer_room, stream_room, row_room, given_room;
 static bool at_back;
 
 static struct room make_room(size_t size)
@@ -165,6 +167,104 @@ static uint32_t call_list(size_t offset, size_t length, uint32_t **list, sqllex_
     return status;
 }
 
+/* A stream's phases, and the stream that is called, with its row: they stay where they are from call to call. */
+enum { TAKING, FINISHING, OVER };
+static sqllex_stream *stream;
+static uint8_t *row;
+
+/* What these were before a call. */
+static sqllex_stream stream_before;
+static uint8_t row_before[ROW_LENGTH];
+
+static void begin_stream(void)
+{
+    row = unset(row_room, ROW_LENGTH);
+    stream = unset(stream_room, sizeof *stream);
+    require(sqllex_stream_begin(profile, stream) == SQLLEX_MORE, "a stream that is begun wants no part");
+    look_beside(stream, sizeof *stream, "a byte beside a stream that is begun was written");
+    require(stream->profile == profile && stream->phase == TAKING, "a stream begins otherwise");
+    require(stream->given == 0 && stream->held == 0 && stream->total == 0, "a stream begins with bytes");
+}
+
+static void look_at_row(size_t from)
+{
+    require(memcmp(row + from, row_before + from, ROW_LENGTH - from) == 0, "bytes of the row were written that are not held");
+}
+
+static void look_at_numbers(uint32_t phase, uint32_t given, uint32_t held, uint32_t total)
+{
+    require(stream->profile == stream_before.profile && stream->phase == phase, "a stream with another profile or phase");
+    require(stream->given == given && stream->held == held && stream->total == total, "a stream that holds otherwise");
+}
+
+/* Statuses that take nothing: a stream is left as it was but for its phase, and the row as well. */
+static void look_at_none(uint32_t phase, const sqllex_given *said)
+{
+    require(said->taken == 0, "bytes were taken that are refused");
+    look_at_numbers(phase, stream_before.given, stream_before.held, stream_before.total);
+    require(stream->reading == stream_before.reading, "a stream that reads otherwise");
+    look_at_row(0);
+}
+
+/* Any other status: what was taken is counted, and what is held lies at the row's front. */
+static void look_at_some(uint32_t status, size_t part_length, bool finish, const sqllex_given *said)
+{
+    const sqllex_answer *answer = &said->answer;
+    uint32_t phase = status != SQLLEX_TOKEN && status != SQLLEX_MORE ? OVER : finish ? FINISHING : TAKING;
+    require(said->taken <= part_length, "more was taken than a part has");
+    require(stream->held <= ROW_LENGTH, "more is held than a row has");
+    look_at_numbers(phase, status == SQLLEX_TOKEN ? (uint32_t)answer->length : 0, stream->held,
+                    stream_before.total + (uint32_t)said->taken);
+    require(answer->length <= stream->held, "a span of more than is held");
+    look_at_row(stream->held);
+    if (status == SQLLEX_MORE)
+        require(said->taken == part_length && answer->start + answer->length + answer->next == 0, "more than taken beside More");
+}
+
+/* The answer of a token is that of sqllex_next for the bytes that are held. */
+static void look_at_held(const sqllex_answer *token)
+{
+    sqllex_answer next;
+    require(sqllex_next(row, stream->held, 0, stream->profile, &next) == SQLLEX_TOKEN, "a token of what is none");
+    require(next.value == token->value && next.length == token->length, "another token than sqllex_next gives");
+    require(next.digits == token->digits && next.underscores == token->underscores, "other sums than sqllex_next gives");
+    require(token->next == token->start + token->length, "a token that ends elsewhere");
+}
+
+/* What holds of every call, whatever the stream's numbers and the row's bytes were. */
+static void look_at_stream(uint32_t status, size_t part_length, bool finish, const sqllex_given *said)
+{
+    static const unsigned char known[] = {0, 1, 2, 3, 4, 5, 6, 7, 9, 14, 15, 100, 103};
+    require(status <= 103 && memchr(known, (int)status, sizeof known) != NULL, "a status that a stream has not");
+    require(!finish || (status != SQLLEX_MORE && status != SQLLEX_TOO_LONG && status != SQLLEX_LEXEME_TOO_LONG),
+            "a status that a finish call has not");
+    require(status == SQLLEX_TOKEN || said->answer.value + said->answer.digits + said->answer.underscores == 0,
+            "a kind or sums of what is no token");
+    if (status == SQLLEX_CLOSED)
+        look_at_none(stream_before.phase, said);
+    else if (status == SQLLEX_TOO_LONG)
+        look_at_none(OVER, said);
+    else
+        look_at_some(status, part_length, finish, said);
+    if (status == SQLLEX_TOKEN)
+        look_at_held(&said->answer);
+}
+
+/* A finish call, or the text is offered as a part. */
+static uint32_t call_stream(bool finish, sqllex_given *said)
+{
+    sqllex_given *given = unset(given_room, sizeof *given);
+    stream_before = *stream;
+    memcpy(row_before, row, ROW_LENGTH);
+    uint32_t status = finish ? sqllex_stream_finish(stream, row, given) : sqllex_stream_offer(stream, row, text, text_length, given);
+    *said = *given;
+    look_beside(given, sizeof *given, "a byte beside what is given was written");
+    look_beside(stream, sizeof *stream, "a byte beside the stream was written");
+    look_beside(row, ROW_LENGTH, "a byte beside the row was written");
+    look_at_stream(status, finish ? 0 : text_length, finish, said);
+    return status;
+}
+
 /* The name of a status, and what every answer with it has, beside what is printed. */
 static void look_for_sums(const sqllex_answer *answer)
 {
@@ -189,23 +289,31 @@ static void look_at_end(const sqllex_answer *answer)
     require(answer->start == answer->next && answer->next == text_length && answer->length == 0, "an end that is not the text's");
 }
 
-static void print_token(const sqllex_answer *answer, bool sums)
-{
-    bool number = answer->value == SQLLEX_TK_INTEGER || answer->value == SQLLEX_TK_FLOAT;
-    if (!number)
-        look_for_sums(answer);
-    require((answer->digits > 0) == number, "a number without a digit");
-    require(answer->digits <= answer->length && answer->underscores <= answer->length - answer->digits, "more digits than bytes");
-    printf("%s\t%zu\t%zu", kind_names[answer->value], answer->start, answer->length);
-    if (sums)
-        printf("\t%zu\t%zu", answer->digits, answer->underscores);
-    printf("\n");
-}
-
 /* Kinds that the profile sqlite never gives. */
 static bool is_of_turso(size_t kind)
 {
     return kind == SQLLEX_TK_LBRACKET || kind == SQLLEX_TK_COLON || kind == SQLLEX_TK_ARRAY_OVERLAP || kind == SQLLEX_TK_ARRAY_CONTAINS;
+}
+
+static void look_at_token(const sqllex_answer *answer, size_t offset)
+{
+    bool number = answer->value == SQLLEX_TK_INTEGER || answer->value == SQLLEX_TK_FLOAT;
+    require(answer->value < SQLLEX_KINDS_COUNT, "a kind that is none");
+    require(profile == SQLLEX_TURSO || !is_of_turso(answer->value), "a kind that the profile has not");
+    require(answer->start == offset && answer->next == offset + answer->length, "a token that lies elsewhere");
+    require(answer->length > 0, "a token of no byte");
+    if (!number)
+        look_for_sums(answer);
+    require((answer->digits > 0) == number, "a number without a digit");
+    require(answer->digits <= answer->length && answer->underscores <= answer->length - answer->digits, "more digits than bytes");
+}
+
+static void print_token(const sqllex_answer *answer, bool sums)
+{
+    printf("%s\t%zu\t%zu", kind_names[answer->value], answer->start, answer->length);
+    if (sums)
+        printf("\t%zu\t%zu", answer->digits, answer->underscores);
+    printf("\n");
 }
 
 static size_t print_walk(size_t offset, bool sums)
@@ -214,10 +322,7 @@ static size_t print_walk(size_t offset, bool sums)
     size_t tokens = 0;
     uint32_t status;
     while ((status = call_next(offset, &answer)) == SQLLEX_TOKEN) {
-        require(answer.value < SQLLEX_KINDS_COUNT, "a kind that is none");
-        require(profile == SQLLEX_TURSO || !is_of_turso(answer.value), "a kind that the profile has not");
-        require(answer.start == offset && answer.next == offset + answer.length, "a token that lies elsewhere");
-        require(answer.length > 0, "a token of no byte");
+        look_at_token(&answer, offset);
         print_token(&answer, sums);
         offset = answer.next;
         tokens++;
@@ -307,6 +412,111 @@ static void print_word(size_t offset)
 {
     (void)offset;
     printf("%s\t%d\n\n", kind_names[sqllex_word_kind(text, text_length)], sqllex_is_quotable_keyword(text, text_length));
+}
+
+/* The bytes that the stream has taken, from the first of all parts on, and where the token given last ends. */
+static uint8_t sent[TEXT_MOST];
+static size_t sent_length, last_end;
+
+static void follow_stream(void)
+{
+    sent_length = last_end = 0;
+    begin_stream();
+}
+
+static void look_at_refusal(uint32_t status, const sqllex_answer *answer)
+{
+    if (status >= SQLLEX_TOO_LONG)
+        require(answer->start == last_end && answer->length == 0 && answer->next == last_end, "a refusal that lies elsewhere");
+    else if (status != SQLLEX_END)
+        require(answer->start >= last_end && answer->start + answer->length <= sent_length, "a span outside the text");
+    else
+        require(answer->start == sent_length && answer->length == 0 && answer->next == sent_length, "an end that is not the text's");
+}
+
+/* A call whose answer is that of the bytes sent; a token's bytes are at the row's front. */
+static uint32_t call_sent(bool finish, sqllex_given *said)
+{
+    const sqllex_answer *answer = &said->answer;
+    uint32_t status = call_stream(finish, said);
+    require(said->taken <= sizeof sent - sent_length, "too much was taken");
+    if (said->taken > 0)
+        memcpy(sent + sent_length, text, said->taken);
+    sent_length += said->taken;
+    require(stream->total == sent_length, "another number of bytes was taken");
+    if (status == SQLLEX_TOKEN) {
+        look_at_token(answer, last_end);
+        require(answer->length <= SQLLEX_LONGEST_LEXEME && answer->next <= sent_length, "a token that is too long");
+        require(memcmp(row, sent + answer->start, answer->length) == 0, "the row's front is not the token");
+        last_end = answer->next;
+    } else if (status != SQLLEX_MORE) {
+        look_at_refusal(status, answer);
+    }
+    return status;
+}
+
+static void print_given(uint32_t status, const sqllex_given *given)
+{
+    const sqllex_answer *answer = &given->answer;
+    if (status == SQLLEX_TOKEN)
+        printf("%s\t%zu\t%zu\t%zu\n", kind_names[answer->value], answer->start, answer->length, given->taken);
+    else if (status == SQLLEX_MORE)
+        printf("More\t%zu\n", given->taken);
+    else if (status == SQLLEX_END)
+        printf("END\t%zu\n", answer->next);
+    else
+        printf("%s\t%zu\t%zu\t%zu\t%zu\n", refusal_names[status], answer->start, answer->length, answer->next, given->taken);
+}
+
+/* A part is offered, and its rest again as long as tokens come. */
+static void print_part(const uint8_t *part, size_t length)
+{
+    sqllex_given given;
+    uint32_t status;
+    do {
+        set_text(part, length);
+        status = call_sent(false, &given);
+        print_given(status, &given);
+        part += given.taken;
+        length -= given.taken;
+    } while (status == SQLLEX_TOKEN);
+}
+
+static void print_finish(void)
+{
+    sqllex_given given;
+    uint32_t status = call_sent(true, &given);
+    print_given(status, &given);
+}
+
+/* A script: two bytes for each call, lowest first, which are the length of the part behind them, or FINISH for a finish call. */
+#define FINISH 65535u
+
+static void print_stream(size_t offset)
+{
+    static uint8_t script[TEXT_MOST];
+    size_t left = text_length, length;
+    const uint8_t *at = script;
+    (void)offset;
+    memcpy(script, text, left);
+    follow_stream();
+    while (left > 0) {
+        length = left < 2 ? 0 : at[0] + 256u * at[1];
+        if (left < 2 || (length != FINISH && length > left - 2)) {
+            printf("BADSCRIPT\n");
+            break;
+        }
+        at += 2;
+        left -= 2;
+        if (length == FINISH) {
+            print_finish();
+            continue;
+        }
+        print_part(at, length);
+        at += length;
+        left -= length;
+    }
+    printf("\n");
 }
 
 /* Records: offset and length, 4 bytes each, lowest first, and the text. */
@@ -604,6 +814,14 @@ static void *lend(struct room room, size_t size)
     return there;
 }
 
+/* What is lent has its bytes once more; those beside it stay as they are. */
+static void lend_again(void *there, size_t size)
+{
+    unsigned char *bytes = there;
+    for (size_t i = 0; i < size; i++)
+        bytes[i] = lent_byte((size_t)(bytes + i - first_of(there)));
+}
+
 static void look_at_lent(void *there, size_t size, const char *what)
 {
     const unsigned char *first = first_of(there);
@@ -657,6 +875,437 @@ static void try_unknown_texts(void)
     try_unknown();
 }
 
+static sqllex_given gave;
+
+static void expect_given(int line, uint32_t got, uint32_t status, size_t value, size_t start, size_t length, size_t next, size_t taken)
+{
+    if (status == SQLLEX_TOKEN) /* its sums look_at_held has seen */
+        gave.answer.digits = gave.answer.underscores = 0;
+    expect(line, got, &gave.answer, status, value, start, length, next);
+    if (gave.taken == taken)
+        return;
+    fprintf(stderr, "calls: line %d: %zu bytes were taken\n", line, gave.taken);
+    exit(1);
+}
+
+/* The text is offered, or what was not taken of it; a finish call is made. */
+#define OFFER(...) expect_given(__LINE__, call_stream(false, &gave), __VA_ARGS__)
+#define FINISHES(...) expect_given(__LINE__, call_stream(true, &gave), __VA_ARGS__, 0)
+
+static void leave_taken(void)
+{
+    static unsigned char rest[TEXT_MOST];
+    size_t length = text_length - gave.taken;
+    memcpy(rest, text + gave.taken, length);
+    set_text(rest, length);
+}
+
+#define REST(...) (leave_taken(), OFFER(__VA_ARGS__))
+
+/* Every call is refused, and changes nothing. */
+static void expect_over(int line, size_t last)
+{
+    for (int i = 0; i < 2; i++) {
+        TEXT("");
+        expect_given(line, call_stream(false, &gave), SQLLEX_CLOSED, 0, last, 0, last, 0);
+        TEXT("a;");
+        expect_given(line, call_stream(false, &gave), SQLLEX_CLOSED, 0, last, 0, last, 0);
+        expect_given(line, call_stream(true, &gave), SQLLEX_CLOSED, 0, last, 0, last, 0);
+    }
+}
+
+#define OVER_AT(last) expect_over(__LINE__, last)
+
+static void try_stream(void)
+{
+    begin_stream();
+    FINISHES(SQLLEX_END, 0, 0, 0, 0);
+    OVER_AT(0);
+    begin_stream();
+    TEXT("");
+    OFFER(SQLLEX_MORE, 0, 0, 0, 0, 0);
+    TEXT("sel");
+    OFFER(SQLLEX_MORE, 0, 0, 0, 0, 3);
+    TEXT("ect 1");
+    OFFER(SQLLEX_TOKEN, SQLLEX_TK_SELECT, 0, 6, 6, 4);
+    REST(SQLLEX_TOKEN, SQLLEX_TK_NONE, 6, 1, 7, 1);
+    REST(SQLLEX_MORE, 0, 0, 0, 0, 0);
+    TEXT("2_");
+    OFFER(SQLLEX_MORE, 0, 0, 0, 0, 2);
+    TEXT("5;--");
+    OFFER(SQLLEX_TOKEN, SQLLEX_TK_INTEGER, 7, 4, 11, 2);
+    REST(SQLLEX_TOKEN, SQLLEX_TK_SEMI, 11, 1, 12, 0);
+    REST(SQLLEX_MORE, 0, 0, 0, 0, 2);
+    FINISHES(SQLLEX_TOKEN, SQLLEX_TK_NONE, 12, 2, 14);
+    OFFER(SQLLEX_CLOSED, 0, 14, 0, 14, 0);
+    FINISHES(SQLLEX_END, 0, 14, 0, 14);
+    OVER_AT(14);
+    /* after a finish call parts are refused, and finish calls go on */
+    begin_stream();
+    TEXT("$a:");
+    OFFER(SQLLEX_MORE, 0, 0, 0, 0, 3);
+    FINISHES(SQLLEX_TOKEN, SQLLEX_TK_VARIABLE, 0, 2, 2);
+    TEXT(":b");
+    OFFER(SQLLEX_CLOSED, 0, 2, 0, 2, 0);
+    if (profile == SQLLEX_TURSO) {
+        FINISHES(SQLLEX_TOKEN, SQLLEX_TK_COLON, 2, 1, 3);
+        OFFER(SQLLEX_CLOSED, 0, 3, 0, 3, 0);
+        FINISHES(SQLLEX_END, 0, 3, 0, 3);
+        OVER_AT(3);
+    } else {
+        FINISHES(SQLLEX_UNRECOGNIZED_TOKEN, 0, 2, 1, 2);
+        OVER_AT(2);
+    }
+    /* a part may be lent by a null pointer, where it is of no bytes */
+    begin_stream();
+    text = NULL;
+    text_length = 0;
+    OFFER(SQLLEX_MORE, 0, 0, 0, 0, 0);
+}
+
+/* Each refusal of a lexeme, behind a token, in one part with bytes behind it. */
+static void expect_refused(int line, const char *part, uint32_t status, size_t start, size_t length, size_t next, size_t taken)
+{
+    begin_stream();
+    set_text(part, strlen(part));
+    OFFER(SQLLEX_TOKEN, SQLLEX_TK_SEMI, 0, 1, 1, 1);
+    leave_taken();
+    expect_given(line, call_stream(false, &gave), status, 0, start, length, next, taken);
+    expect_over(line, 1);
+}
+
+#define REFUSES(...) expect_refused(__LINE__, __VA_ARGS__)
+
+static void try_stream_refusals(void)
+{
+    REFUSES(";{b c", SQLLEX_UNRECOGNIZED_TOKEN, 1, 2, 3, 3);
+    REFUSES(";x'1'1", SQLLEX_UNRECOGNIZED_TOKEN, 1, 4, 1, 4);
+    REFUSES(";$(a", SQLLEX_UNRECOGNIZED_TOKEN, 1, 1, 1, 2);
+    REFUSES(";x'1g'", SQLLEX_UNTERMINATED_LITERAL, 1, 3, 1, 4);
+    REFUSES(";12_xy", SQLLEX_BAD_NUMBER, 2, 2, 1, 4);
+    REFUSES(";1.5ab", SQLLEX_BAD_FRACTIONAL_PART, 2, 2, 1, 4);
+    REFUSES(";1e+ab", SQLLEX_BAD_EXPONENT_PART, 2, 2, 1, 4);
+    REFUSES(";0xgg", SQLLEX_MALFORMED_HEX_INTEGER, 1, 2, 1, 3);
+    REFUSES(";!aa", SQLLEX_EXPECTED_EQUALS_SIGN, 1, 1, 1, 2);
+    begin_stream();
+    TEXT(";'a");
+    OFFER(SQLLEX_TOKEN, SQLLEX_TK_SEMI, 0, 1, 1, 1);
+    REST(SQLLEX_MORE, 0, 0, 0, 0, 2);
+    FINISHES(SQLLEX_UNTERMINATED_LITERAL, 0, 1, 2, 1);
+    OVER_AT(1);
+}
+
+/* Many equal bytes between others. */
+static void set_long(const char *head, int byte, size_t count, const char *tail)
+{
+    static char bytes[TEXT_MOST];
+    size_t before = strlen(head), behind = strlen(tail);
+    memcpy(bytes, head, before);
+    memset(bytes + before, byte, count);
+    memcpy(bytes + before + count, tail, behind);
+    set_text(bytes, before + count + behind);
+}
+
+/* A lexeme of the most bytes that a stream takes, settled by so many bytes behind it, and one of a byte more. */
+static void expect_longest(int line, const char *head, int byte, const char *tail, size_t kind, size_t behind)
+{
+    size_t most = SQLLEX_LONGEST_LEXEME, count = most + behind - strlen(head) - strlen(tail);
+    begin_stream();
+    set_long(head, byte, count, tail);
+    expect_given(line, call_stream(false, &gave), SQLLEX_TOKEN, kind, 0, most, most, most + behind);
+    begin_stream();
+    TEXT(";");
+    OFFER(SQLLEX_TOKEN, SQLLEX_TK_SEMI, 0, 1, 1, 1);
+    set_long(head, byte, count + 1, tail);
+    expect_given(line, call_stream(false, &gave), SQLLEX_LEXEME_TOO_LONG, 0, 1, 0, 1, most + 1);
+    expect_over(line, 1);
+}
+
+#define LONGEST(...) expect_longest(__LINE__, __VA_ARGS__)
+
+static void try_longest(void)
+{
+    size_t most = SQLLEX_LONGEST_LEXEME;
+    LONGEST("", 'a', ";", SQLLEX_TK_ID, 1);
+    LONGEST("", ' ', "a", SQLLEX_TK_NONE, 1);
+    LONGEST("/*", '*', "/", SQLLEX_TK_NONE, 0);
+    LONGEST("--", '-', "\n", SQLLEX_TK_NONE, 0);
+    LONGEST("'", 'a', "';", SQLLEX_TK_STRING, 1);
+    LONGEST("", '1', ";", SQLLEX_TK_INTEGER, 1);
+    LONGEST("$", 'a', ";", SQLLEX_TK_VARIABLE, 1);
+    LONGEST("$", 'a', ":;", SQLLEX_TK_VARIABLE, 2);
+    /* malformed ones: it is the lexeme that counts, not the span */
+    begin_stream();
+    set_long("", '1', most, "a");
+    OFFER(SQLLEX_LEXEME_TOO_LONG, 0, 0, 0, 0, most + 1);
+    OVER_AT(0);
+    begin_stream();
+    set_long("", '1', most - 1, "_x");
+    OFFER(SQLLEX_BAD_NUMBER, 0, 1, most - 1, 0, most + 1);
+    begin_stream();
+    set_long("{", 'a', most - 1, " ");
+    OFFER(SQLLEX_UNRECOGNIZED_TOKEN, 0, 0, most, most, most + 1);
+    begin_stream();
+    set_long("{", 'a', most, " ");
+    OFFER(SQLLEX_LEXEME_TOO_LONG, 0, 0, 0, 0, most + 1);
+    /* byte by byte too, and no byte of a full lexeme is refused before the one that is too many */
+    begin_stream();
+    TEXT("a");
+    for (size_t i = 0; i < most; i++)
+        OFFER(SQLLEX_MORE, 0, 0, 0, 0, 1);
+    sqllex_stream full = *stream;
+    OFFER(SQLLEX_LEXEME_TOO_LONG, 0, 0, 0, 0, 1);
+    *stream = full;
+    FINISHES(SQLLEX_TOKEN, SQLLEX_TK_ID, 0, most, most);
+    FINISHES(SQLLEX_END, 0, most, 0, most);
+}
+
+/* A row that is full: a lexeme of the most bytes, and two more behind it. */
+static void try_full(void)
+{
+    size_t most = SQLLEX_LONGEST_LEXEME;
+    for (int whole = 0; whole < 2; whole++) {
+        begin_stream();
+        if (whole) {
+            set_long("$", 'a', most - 1, ":(");
+            OFFER(SQLLEX_TOKEN, SQLLEX_TK_VARIABLE, 0, most, most, ROW_LENGTH);
+        } else {
+            set_long("$", 'a', most - 1, ":");
+            OFFER(SQLLEX_MORE, 0, 0, 0, 0, ROW_LENGTH - 1);
+            TEXT("(;");
+            OFFER(SQLLEX_TOKEN, SQLLEX_TK_VARIABLE, 0, most, most, 1);
+        }
+        require(stream->held == ROW_LENGTH, "the row is not full");
+        TEXT("");
+        if (profile == SQLLEX_SQLITE) {
+            OFFER(SQLLEX_UNRECOGNIZED_TOKEN, 0, most, 1, most, 0);
+            OVER_AT(most);
+            continue;
+        }
+        OFFER(SQLLEX_TOKEN, SQLLEX_TK_COLON, most, 1, most + 1, 0);
+        OFFER(SQLLEX_TOKEN, SQLLEX_TK_LP, most + 1, 1, most + 2, 0);
+        OFFER(SQLLEX_MORE, 0, 0, 0, 0, 0);
+        FINISHES(SQLLEX_END, 0, most + 2, 0, most + 2);
+        OVER_AT(most + 2);
+    }
+}
+
+/* A stream that has taken so many bytes, and given all of them. */
+static void begin_behind(uint32_t total)
+{
+    begin_stream();
+    stream->total = total;
+}
+
+static void try_total(void)
+{
+    const size_t most = 4294967295;
+    begin_behind(4294967295 - 3);
+    TEXT(";;;;");
+    OFFER(SQLLEX_TOO_LONG, 0, most - 3, 0, most - 3, 0);
+    OVER_AT(most - 3);
+    begin_behind(4294967295 - 3);
+    TEXT(";;;");
+    OFFER(SQLLEX_TOKEN, SQLLEX_TK_SEMI, most - 3, 1, most - 2, 1);
+    REST(SQLLEX_TOKEN, SQLLEX_TK_SEMI, most - 2, 1, most - 1, 1);
+    REST(SQLLEX_TOKEN, SQLLEX_TK_SEMI, most - 1, 1, most, 1);
+    REST(SQLLEX_MORE, 0, 0, 0, 0, 0);
+    sqllex_stream full = *stream;
+    TEXT(";");
+    OFFER(SQLLEX_TOO_LONG, 0, most, 0, most, 0);
+    OVER_AT(most);
+    *stream = full;
+    FINISHES(SQLLEX_END, 0, most, 0, most);
+    OVER_AT(most);
+    /* with bytes held: of a lexeme that is not settled, and of one that is */
+    begin_behind(4294967295 - 3);
+    TEXT("a");
+    OFFER(SQLLEX_MORE, 0, 0, 0, 0, 1);
+    full = *stream;
+    TEXT("bcd");
+    OFFER(SQLLEX_TOO_LONG, 0, most - 3, 0, most - 3, 0);
+    OVER_AT(most - 3);
+    *stream = full;
+    TEXT("bc");
+    OFFER(SQLLEX_MORE, 0, 0, 0, 0, 2);
+    FINISHES(SQLLEX_TOKEN, SQLLEX_TK_ID, most - 3, 3, most);
+    FINISHES(SQLLEX_END, 0, most, 0, most);
+    begin_behind(4294967295 - 3);
+    TEXT("a;");
+    OFFER(SQLLEX_TOKEN, SQLLEX_TK_ID, most - 3, 1, most - 2, 2);
+    TEXT("++");
+    OFFER(SQLLEX_TOO_LONG, 0, most - 2, 0, most - 2, 0);
+    OVER_AT(most - 2);
+    /* a closed stream says so, however long the part */
+    begin_behind(4294967295);
+    FINISHES(SQLLEX_END, 0, most, 0, most);
+    OVER_AT(most);
+}
+
+/* A text in parts of one length gives what sqllex_next gives of it, up to its first refusal. */
+static void expect_walk(const uint8_t *bytes, size_t length, size_t part)
+{
+    sqllex_answer next = {0, 0, 0, 0, 0, 0};
+    uint32_t status, wanted;
+    size_t at = 0;
+    follow_stream();
+    do {
+        wanted = sqllex_next(bytes, length, next.next, profile, &next);
+        do {
+            bool finish = at == length;
+            set_text(bytes + at, length - at < part ? length - at : part);
+            status = call_sent(finish, &gave);
+            at += gave.taken;
+        } while (status == SQLLEX_MORE);
+        require(status == wanted && memcmp(&gave.answer, &next, sizeof next) == 0, "a stream gives another answer than sqllex_next");
+    } while (status == SQLLEX_TOKEN);
+}
+
+static void expect_walks(const void *bytes, size_t length)
+{
+    for (size_t part = 1; part <= length + 1; part++)
+        expect_walk(bytes, length, part);
+}
+
+#define WALKS(literal) expect_walks(literal, sizeof literal - 1)
+
+static void try_walks(void)
+{
+    WALKS("");
+    WALKS("SELECT a, 'it''s', \"b\"\"c\", `d` FROM t WHERE x>=1.5e+1_0 AND y!=0x1_F || x'0F'; -- end\n/* ; */");
+    WALKS("->>->-<<>><><=<==&|&||~%*,()?12 #a $a::b(c) @1;");
+    WALKS("$a::b:c $a:::d :");
+    WALKS("[a b];[");
+    WALKS("1e_5 1e5");
+    WALKS("a\0b");
+    WALKS("'\0\377' x'1g'");
+    WALKS("/* never closed *");
+    WALKS("\"never closed");
+    WALKS("1.5e-");
+    WALKS(".5_");
+    WALKS("0x");
+    WALKS("$a(b");
+    WALKS("a !");
+}
+
+/* Numbers that are no stream's, with a row and a part of which nothing can be read: nothing is written. */
+static void expect_no_stream(sqllex_stream numbers, size_t part_length)
+{
+    static const char what[] = "something was written of what is no stream";
+    sqllex_given *given = lend(given_room, sizeof *given);
+    stream = lend(stream_room, sizeof *stream);
+    *stream = numbers;
+    row = lend(row_room, ROW_LENGTH);
+    mprotect(row_room.bytes, row_room.size, PROT_NONE);
+    uint32_t offered = sqllex_stream_offer(stream, row, text, part_length, given);
+    uint32_t finished = sqllex_stream_finish(stream, row, given);
+    mprotect(row_room.bytes, row_room.size, PROT_READ | PROT_WRITE);
+    require(offered == SQLLEX_UNKNOWN_STREAM && finished == SQLLEX_UNKNOWN_STREAM, "numbers that are no stream's are taken for one");
+    require(memcmp(stream, &numbers, sizeof numbers) == 0, what);
+    lend_again(stream, sizeof *stream);
+    look_at_lent(stream, sizeof *stream, what);
+    look_at_lent(given, sizeof *given, what);
+    look_at_lent(row, ROW_LENGTH, what);
+}
+
+static void try_no_profile(void)
+{
+    static const uint32_t numbers[] = {2, 3, 98, 99, 0x80000000, 0xffffffff};
+    for (size_t i = 0; i < sizeof numbers / sizeof *numbers; i++) {
+        stream = lend(stream_room, sizeof *stream);
+        require(sqllex_stream_begin(numbers[i], stream) == SQLLEX_UNKNOWN_PROFILE, "a stream under no profile");
+        look_at_lent(stream, sizeof *stream, "a stream was written under no profile");
+    }
+}
+
+static void try_no_stream(void)
+{
+    static const sqllex_stream bad[] = {
+        {2, 0, 2, 0, 0, 0},          {0xffffffff, 0, 2, 0, 0, 0}, {0x80000000, 0, 2, 0, 0, 0}, {0, 3, 2, 0, 0, 0},
+        {1, 0xffffffff, 2, 0, 0, 0}, {0, 0x80000000, 2, 0, 0, 0}, {0, 0, 47, 0, 0, 0},         {1, 0, 0xffffffff, 0, 0, 0},
+        {0, 1, 47, 0, 0, 0},         {0, 2, 47, 0, 0, 0},         {2, 2, 0, 7, 9, 100},        {2, 3, 47, 1, 2, 0xffffffff},
+        {256, 0, 2, 0, 0, 0},        {0, 256, 2, 0, 0, 0},        {0, 0, 258, 0, 0, 0},        {2, 0, 2, 0xffffffff, 0xffffffff, 0},
+    };
+    static const size_t lengths[] = {0, 1, TEXT_MOST};
+    set_long("", ';', TEXT_MOST, "");
+    mprotect(text_room.bytes, text_room.size, PROT_NONE);
+    for (size_t i = 0; i < sizeof bad / sizeof *bad; i++)
+        for (size_t n = 0; n < sizeof lengths / sizeof *lengths; n++)
+            expect_no_stream(bad[i], lengths[n]);
+}
+
+/* Numbers by rule, the same in each run. */
+static uint32_t drawn = 1;
+
+static uint32_t draw(uint32_t below)
+{
+    drawn ^= drawn << 13;
+    drawn ^= drawn >> 17;
+    drawn ^= drawn << 5;
+    return drawn % below;
+}
+
+static void draw_bytes(uint8_t *bytes, size_t length)
+{
+    static const char common[] = "aex10_.'\"`[]$@:(?)# \n-/*!<=>|&{;\v";
+    bool runs = draw(2) == 0; /* a run of one byte now and then, so that lexemes become long */
+    uint8_t byte = 'a';
+    for (size_t i = 0; i < length; i++) {
+        if (!runs || draw(600) == 0)
+            byte = draw(50) == 0 ? (uint8_t)draw(256) : (uint8_t)common[draw(sizeof common - 1)];
+        bytes[i] = byte;
+    }
+}
+
+static uint32_t draw_number(void)
+{
+    static const uint32_t edges[] = {0,     1,          2,          2047,       2048,       2049,      2050, 2051,
+                                     65536, 0x7fffffff, 0x80000000, 4294964000, 4294967294, 4294967295};
+    switch (draw(4)) {
+    case 0:
+        return draw(2060);
+    case 1:
+        return draw(0xffffffff);
+    default:
+        return edges[draw(sizeof edges / sizeof *edges)];
+    }
+}
+
+/* A stream and a row that no call has left so: each call answers, inside what is lent, and the next goes on from what it left. */
+static void try_state(uint32_t phase, uint32_t reading)
+{
+    static uint8_t bytes[3000];
+    row = unset(row_room, ROW_LENGTH);
+    draw_bytes(row, ROW_LENGTH);
+    stream = unset(stream_room, sizeof *stream);
+    *stream = (sqllex_stream){profile, phase, reading, draw_number(), draw_number(), draw_number()};
+    for (uint32_t status = SQLLEX_MORE, i = 0; i < 4 && status >= SQLLEX_TOKEN; i++) {
+        size_t length = draw(3) == 0 ? draw(sizeof bytes) : draw(5);
+        draw_bytes(bytes, length);
+        set_text(bytes, length);
+        status = call_stream(draw(4) == 0, &gave);
+    }
+}
+
+static void try_any_stream(void)
+{
+    for (int round = 0; round < 30; round++)
+        for (uint32_t reading = 0; reading < 47; reading++)
+            for (uint32_t phase = TAKING; phase <= OVER; phase++)
+                try_state(phase, reading);
+}
+
+static void try_streams(void)
+{
+    try_stream();
+    try_stream_refusals();
+    try_longest();
+    try_full();
+    try_total();
+    try_walks();
+    try_any_stream();
+}
+
 /* What holds under each profile. */
 static void try_both(void)
 {
@@ -667,6 +1316,7 @@ static void try_both(void)
     try_cut();
     try_long();
     try_null();
+    try_streams();
 }
 
 static void try_edges(void)
@@ -677,10 +1327,12 @@ static void try_edges(void)
     try_both();
     try_sqlite();
     try_unknown_texts();
+    try_no_profile();
+    try_no_stream();
     try_words();
 }
 
-static const char usage[] = "calls front|back next|sums|list N|cut [turso|sqlite], or calls front|back word|replay|edges";
+static const char usage[] = "calls front|back next|sums|list N|cut|stream [turso|sqlite], or calls front|back word|replay|edges";
 
 /* The second argument, and which behind it: a list's length N, a profile. */
 struct mode {
@@ -696,6 +1348,7 @@ static const struct mode *mode_named(const char *name)
         {"sums", false, true, print_sums},
         {"list", true, true, print_one_list},
         {"cut", false, true, print_cut},
+        {"stream", false, true, print_stream},
         {"word", false, false, print_word},
         {"replay", false, false, print_replay},
         {"edges", false, false, NULL}, /* reads no records */
@@ -739,6 +1392,9 @@ int main(int argc, char **argv)
     text_room = make_room(TEXT_MOST);
     list_room = make_room(LIST_MOST * sizeof(uint32_t) + BESIDE);
     answer_room = make_room(sizeof(sqllex_answer));
+    stream_room = make_room(sizeof(sqllex_stream));
+    row_room = make_room(ROW_LENGTH);
+    given_room = make_room(sizeof(sqllex_given));
     if (mode->print != NULL)
         each_record(mode->print);
     else

@@ -1,30 +1,22 @@
 -- For readers. `next-unique`, `list-unique`, `count-unique`, `cut-unique`: two results that meet a call's contract, and two lists, are equal.
--- Assumes nothing.
+-- The contracts of `sqllex_stream_begin`, `sqllex_stream_offer` and `sqllex_stream_finish` are those of `packets`, and so are their theorems:
+-- `begin-unique`, `offer-unique`, `finish-unique` (Theorems.antt there). Assumes nothing.
 use Prim.Native.Nat.{ℕ}
 use mathlib.Core.Path.{_≡_, sym, _∙_, ap}
 use mathlib.Core.List.{List}
-use Rattle.grammar.specs.declared.profile.Profile.{Profile}
 use Rattle.grammar.specs.Longest.{source}
-use Rattle.lexer.specs.declared.lexed.Lexed.{Lexed}
 use Rattle.lexer.proofs.Theorems.{unique}
-use Rattle.lists.specs.declared.list.Listed.{Listed}
 use Rattle.lists.specs.Lists.{recordsIn}
 use Rattle.lists.proofs.Theorems as lists
-use Rattle.capi.specs.declared.answers.Numbers.{Numbers}
-use Rattle.capi.specs.Numbers.{ofNext, ofList, ofCut, written}
-use Rattle.capi.specs.declared.profiles.Chosen.{Chosen}
-use Rattle.capi.specs.declared.profiles.Chosen.the-variants.{Known, Unknown}
-use Rattle.capi.specs.Profiles.{profileOf, Under}
+use Rattle.codes.specs.declared.answers.Numbers.{Numbers}
+use Rattle.codes.specs.Told.{ofNext, ofList, ofCut, written}
+use Rattle.codes.specs.Profiles.{profileOf}
+use Rattle.codes.proofs.CodeLaws.{by-profile}
 use Rattle.capi.specs.Calls.{Gave, NextCall, ListCall, CountCall, CutCall}
 
 -- equal answers give the same numbers
 same : (x y : Numbers) (m n : ℕ) (k l : List ℕ) → x ≡ y → Gave x m k → Gave y n l → (m ≡ n) × (k ≡ l)
 same x y m n k l e (a, b) (c, d) = (a ∙ ap (λ (z : Numbers). z .status) e ∙ sym c, b ∙ ap written e ∙ sym d)
-
--- two calls under the profile of the same number, or both with a number that is none's
-by-profile : (c : Chosen) (A B : Profile → Type 0) (X Y R : Type 0) → ((p : Profile) → A p → B p → R) → (X → Y → R) → Under c A X → Under c B Y → R
-by-profile (Known p) A B X Y R f g x y = f p x y
-by-profile Unknown A B X Y R f g x y = g x y
 
 pub next-unique : (s : List ℕ) (at profile : ℕ) (lent : List ℕ) (m n : ℕ) (k l : List ℕ)
     → NextCall s at profile lent m k → NextCall s at profile lent n l → (m ≡ n) × (k ≡ l)

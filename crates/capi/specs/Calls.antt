@@ -10,9 +10,9 @@ use Rattle.lists.specs.declared.list.Listed.{Listed}
 use Rattle.lists.specs.declared.cut.Statement.{Statement}
 use Rattle.lists.specs.Lists.{recordsIn, Lists}
 use Rattle.lists.specs.Cuts.{Cuts}
-use Rattle.capi.specs.declared.answers.Numbers.{Numbers}
-use Rattle.capi.specs.Numbers.{ofNext, ofList, ofCut, written}
-use Rattle.capi.specs.Profiles.{profileOf, Under}
+use Rattle.codes.specs.declared.answers.Numbers.{Numbers}
+use Rattle.codes.specs.Told.{ofNext, ofList, ofCut, written}
+use Rattle.codes.specs.Profiles.{profileOf, Under}
 
 -- the status and the six numbers written
 abbrev pub Gave : Numbers → ℕ → List ℕ → Type 0

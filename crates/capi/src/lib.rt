@@ -1,21 +1,22 @@
 // The library for C and Rust: numbers and slices in, numbers out. `include/sqllex.h` declares the calls and says what they take and give.
-mod answers;
-mod profiles;
-
-use crate::answers::UNKNOWN_PROFILE;
-use crate::answers::give;
-use crate::answers::of_cut;
-use crate::answers::of_list;
-use crate::answers::of_next;
-use crate::profiles::Chosen;
-use crate::profiles::profile_of;
+use codes::answers::UNKNOWN_PROFILE;
+use codes::profiles::Chosen;
+use codes::profiles::profile_of;
+use codes::told::give;
+use codes::told::of_cut;
+use codes::told::of_list;
+use codes::told::of_next;
 use lexer::cursor::Cursor;
 use lexer::next::next;
 use lists::cut::cut;
+use packets::calls::begin_numbers;
+use packets::calls::finish_numbers;
+use packets::calls::offer_numbers;
 use words::lookup::is_quotable_keyword;
 use words::lookup::keyword_or_id_token;
 ghost use mathlib.Core.Path.{_≡_};
 ghost use Rattle.words.specs.Word.{kindOf, isQuotable};
+ghost use Rattle.packets.specs.Calls.{BeginCall, OfferCall, FinishCall};
 ghost use Rattle.capi.specs.Calls.{NextCall, ListCall, CountCall, CutCall};
 
 #[no_mangle]
@@ -91,4 +92,35 @@ pub extern "C" fn sqllex_is_quotable_keyword(word: &[u8]) -> bool
     ensures { λ r. ⌜ r ≡ isQuotable (now (word .entry)) ⌝ }
 {
     is_quotable_keyword(word)
+}
+
+// Lexing packet by packet. The caller keeps the stream, which is six numbers, and lends the row.
+#[no_mangle]
+pub extern "C" fn sqllex_stream_begin(profile: u32, stream: &mut [u32; 6]) -> u32
+    ensures { λ r. ⌜ BeginCall profile (now (stream .entry)) r (now (stream .exit)) ⌝ }
+{
+    begin_numbers(profile, stream)
+}
+
+#[no_mangle]
+pub extern "C" fn sqllex_stream_offer(
+    stream: &mut [u32; 6],
+    row: &mut [u8; 2050],
+    part: &[u8],
+    given: &mut [usize; 7],
+) -> u32
+    ensures { λ r. ⌜ OfferCall (now (stream .entry)) (now (row .entry)) (now (part .entry)) (now (given .entry)) r (now (stream .exit)) (now (row .exit)) (now (given .exit)) ⌝ }
+{
+    offer_numbers(stream, row, part, given)
+}
+
+#[no_mangle]
+pub extern "C" fn sqllex_stream_finish(
+    stream: &mut [u32; 6],
+    row: &mut [u8; 2050],
+    given: &mut [usize; 7],
+) -> u32
+    ensures { λ r. ⌜ FinishCall (now (stream .entry)) (now (row .entry)) (now (given .entry)) r (now (stream .exit)) (now (row .exit)) (now (given .exit)) ⌝ }
+{
+    finish_numbers(stream, row, given)
 }

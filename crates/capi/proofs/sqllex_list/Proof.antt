@@ -1,8 +1,9 @@
 -- `capi::sqllex_list` meets its contract. Assumes nothing.
 use mathlib.Core.Path.{refl, sym, _∙_, ap}
 use borrow.Author.Needs.{needs}
-use Rattle.capi.specs.declared.answers.Numbers.{Numbers}
-use Rattle.capi.proofs.NumberLaws.{list-value, under-known, under-unknown}
+use Rattle.codes.specs.declared.answers.Numbers.{Numbers}
+use Rattle.codes.proofs.CodeLaws.{under-known, under-unknown}
+use Rattle.capi.proofs.NumberLaws.{list-value}
 use Rattle.capi.proofs.sqllex_list.Statement.{statement}
 use Rattle.capi.proofs.sqllex_list.Tie as tie
 

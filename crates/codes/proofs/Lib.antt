@@ -1,0 +1,3 @@
+pub mod CodeLaws
+pub mod ToldLaws
+pub mod Theorems

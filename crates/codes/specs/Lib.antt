@@ -1,0 +1,3 @@
+pub mod Profiles
+pub mod Numbers
+pub mod Told

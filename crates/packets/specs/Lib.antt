@@ -1,0 +1,3 @@
+pub mod States
+pub mod Numbers
+pub mod Calls
