@@ -2,6 +2,7 @@
 use crate::answers::Way;
 use crate::blocks::put_cut_block;
 use crate::blocks::put_list_block;
+use crate::blocks::put_stream_block;
 use crate::blocks::put_walk_block;
 use crate::blocks::put_word_block;
 use crate::kinds::all_names;
@@ -16,13 +17,15 @@ use rows::out::put;
 ghost use Rattle.rows.specs.Out.{Within};
 
 // What is printed of a record: `next` walked over the text, also with the tokens' digits and underscores, a list of so many numbers, the
-// statement cut, the text as a word; or, for `Replay`, the walk, the walk by a reader, lists of several lengths and the cut.
+// statement cut, the text as a word, or as a script of a stream's calls; or, for `Replay`, the walk, the walk by a reader, lists of
+// several lengths and the cut.
 pub enum Mode {
     Next,
     Sums,
     List(usize),
     Cut,
     Word,
+    Stream,
     Replay,
 }
 
@@ -32,9 +35,19 @@ pub fn print_records(mode: Mode, profile: Profile) {
     let names = all_names();
     // `Replay` lends four more than a list fills.
     let mut numbers = [0u32; 196609];
+    // What a stream holds.
+    let mut held = [0u8; 2050];
     let mut row = [0u8; 131072];
     let mut out = io::large_buffer();
-    answer_records(mode, profile, &names, &mut numbers, &mut row, &mut out);
+    answer_records(
+        mode,
+        profile,
+        &names,
+        &mut numbers,
+        &mut held,
+        &mut row,
+        &mut out,
+    );
 }
 
 // A loop has to end, and nothing says that the input does: it counts down from a number that no input uses up.
@@ -43,6 +56,7 @@ fn answer_records(
     profile: Profile,
     names: &[u8; 2992],
     numbers: &mut [u32],
+    held: &mut [u8; 2050],
     row: &mut [u8],
     out: &mut [u8],
 ) {
@@ -70,6 +84,7 @@ fn answer_records(
             &row[start..end],
             offset,
             numbers,
+            held,
         );
         unread = Unread {
             from: end,
@@ -99,6 +114,7 @@ fn put_answer(
     text: &[u8],
     offset: usize,
     numbers: &mut [u32],
+    held: &mut [u8; 2050],
 ) -> usize
     ensures { λ r. ⌜ Within (now (out .exit)) r ⌝ }
 {
@@ -108,6 +124,7 @@ fn put_answer(
         Mode::List(n) => put_list_block(out, at, text, offset, profile, numbers, n),
         Mode::Cut => put_cut_block(out, at, text, offset, profile),
         Mode::Word => put_word_block(out, at, names, text),
+        Mode::Stream => put_stream_block(out, at, names, text, profile, held),
         Mode::Replay => put_replay(out, at, names, text, offset, profile, numbers),
     }
 }

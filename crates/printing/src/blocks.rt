@@ -4,6 +4,7 @@ use crate::answers::put_cut;
 use crate::answers::put_list;
 use crate::answers::put_walk;
 use crate::answers::put_word;
+use crate::streams::put_stream;
 use grammar::profile::Profile;
 use rows::out::put_byte;
 ghost use Prim.Native.Nat.{_≤_};
@@ -72,5 +73,19 @@ pub(crate) fn put_word_block(out: &mut [u8], at: usize, names: &[u8; 2992], word
     ensures { λ r. ⌜ Within (now (out .exit)) r ⌝ }
 {
     let end = put_word(out, at, names, word);
+    put_byte(out, end, b'\n')
+}
+
+pub(crate) fn put_stream_block(
+    out: &mut [u8],
+    at: usize,
+    names: &[u8; 2992],
+    script: &[u8],
+    profile: Profile,
+    held: &mut [u8; 2050],
+) -> usize
+    ensures { λ r. ⌜ Within (now (out .exit)) r ⌝ }
+{
+    let end = put_stream(out, at, names, script, profile, held);
     put_byte(out, end, b'\n')
 }

@@ -75,20 +75,20 @@ pub(crate) fn put_place(
     put(out, placed, b"\n")
 }
 
-// Behind the span and the offset the number of a list's records ends the line.
+// Behind the span and the offset a number ends the line: of a list's records, or of the bytes that a stream took.
 pub(crate) fn put_counted_place(
     out: &mut [u8],
     at: usize,
     start: usize,
     length: usize,
     offset: usize,
-    records: usize,
+    count: usize,
 ) -> usize
     ensures { λ r. ⌜ Within (now (out .exit)) r ⌝ }
 {
     let spanned = put_span(out, at, start, length);
     let placed = put_column(out, spanned, offset);
-    let counted = put_column(out, placed, records);
+    let counted = put_column(out, placed, count);
     put(out, counted, b"\n")
 }
 

@@ -37,6 +37,9 @@ fn asked_mode(word: &[u8]) -> Asked {
     if check::same(word, b"word") {
         return asked_word();
     }
+    if check::same(word, b"stream") {
+        return with_profile(Mode::Stream, 2);
+    }
     Asked::Unknown
 }
 

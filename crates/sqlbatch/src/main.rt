@@ -1,5 +1,5 @@
-// sqlbatch MODE [PROFILE]: what `next`, also with sums, a list of N numbers, the cut or the word's lookup answers for each record of
-// standard input.
+// sqlbatch MODE [PROFILE]: what `next`, also with sums, a list of N numbers, the cut, the word's lookup or a stream's calls answer for each
+// record of standard input.
 mod arguments;
 
 use crate::arguments::Asked;
@@ -11,7 +11,7 @@ fn main() {
     let Asked::For(mode, profile) = read_arguments() else {
         io::write_all(
             STDOUT_FILENO,
-            b"sqlbatch MODE [PROFILE], where MODE is next, sums, list N (N from 0 to 196605), cut or word, and PROFILE, not for word, turso or sqlite\n",
+            b"sqlbatch MODE [PROFILE], where MODE is next, sums, list N (N from 0 to 196605), cut, word or stream, and PROFILE, not for word, turso or sqlite\n",
         );
         return;
     };

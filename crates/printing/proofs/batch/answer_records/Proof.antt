@@ -16,11 +16,11 @@ inside : (row : List ℕ) {offset start end to : ℕ} {r : Record} → r ≡ Tex
 inside row e h = subst (Holds row) e h
 
 abbrev Inv-loop : tie.InvT-loop
-Inv-loop mode profile names numbers₀ row₀ out₀ unread₀ at₀ turns₀ numbers row out unread at turns =
+Inv-loop mode profile names numbers₀ held₀ row₀ out₀ unread₀ at₀ turns₀ numbers held row out unread at turns =
     (length numbers ≡ length numbers₀) × (length row ≡ length row₀) × (length out ≡ length out₀)
 
 abbrev μ-loop : tie.MeasureT-loop
-μ-loop mode profile names numbers₀ row₀ out₀ unread₀ at₀ turns₀ numbers row out unread at turns = turns
+μ-loop mode profile names numbers₀ held₀ row₀ out₀ unread₀ at₀ turns₀ numbers held row out unread at turns = turns
 
 unread-none-requires : tie.Need-unread-none-requires Inv-loop μ-loop
 unread-none-requires c κs = search needs
