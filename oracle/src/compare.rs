@@ -9,12 +9,14 @@ mod cuts;
 mod damage;
 mod families;
 mod lexemes;
+mod limits;
 mod lists;
 mod makers;
 mod near;
 mod random;
 mod shares;
 mod statements;
+mod streams;
 mod tokenizer;
 mod triggers;
 mod walks;
@@ -52,12 +54,12 @@ pub fn compare(out: &mut impl Write, args: &[String]) -> io::Result<bool> {
     Ok(true)
 }
 
-/// COUNT SEED FOLDER: the same texts, but for single words, all under `turso`. True if the second statement answers as the published
-/// lexer does.
+/// COUNT SEED FOLDER: the same texts, but for single words and scripts, all under `turso`. True if the second statement answers as the
+/// published lexer does.
 pub fn second(out: &mut impl Write, args: &[String]) -> io::Result<bool> {
     let (wanted, _) = Wanted::read(args)?;
     let families = shares::all(wanted.plan()).into_iter().map(|family| family.under(Profile::Turso));
-    let families: Vec<_> = families.filter(|family| !matches!((family.mode)(0), Mode::Word)).collect();
+    let families: Vec<_> = families.filter(|family| !matches!((family.mode)(0), Mode::Word | Mode::Stream)).collect();
     let Some([texts, _]) = wanted.ask(out, &families, Other::Second)? else { return Ok(false) };
     count(out, "total", texts)?;
     Ok(true)

@@ -8,7 +8,9 @@ mod kinds;
 mod list;
 mod modes;
 mod records;
+mod script;
 mod second;
+mod stream;
 mod texts;
 mod walk;
 

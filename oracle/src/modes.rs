@@ -2,15 +2,18 @@
 
 use crate::lexer::{is_quotable_keyword, word_kind};
 use crate::list::{self, Statement};
+use crate::script::{self, Call};
 use crate::second::Profile;
+use crate::stream::{Answer, Stream};
 use crate::token::TokenType::{self, TK_FLOAT, TK_INTEGER};
 use crate::walk::{walk, Source, Stop};
 use std::io::{self, Write};
 
 pub const USAGE: &str = "\
-modes: next [PROFILE], sums [PROFILE], list N [PROFILE] (N 0 to 196605), cut [PROFILE], word, replay (records in, answers out); answers; ahead;
-compare COUNT SEED FOLDER PROGRAM [ARG..]; second COUNT SEED FOLDER; tokenizer COUNT SEED FOLDER PROGRAM [ARG..];
-tokens PROGRAM [ARG..] (records in); complete COUNT SEED - PROGRAM [ARG..]. PROFILE is turso, also where none is named, or sqlite; FOLDER is - for none";
+modes: next [PROFILE], sums [PROFILE], list N [PROFILE] (N 0 to 196605), cut [PROFILE], stream [PROFILE], word, replay
+(records in, answers out); answers; ahead; compare COUNT SEED FOLDER PROGRAM [ARG..]; second COUNT SEED FOLDER;
+tokenizer COUNT SEED FOLDER PROGRAM [ARG..]; tokens PROGRAM [ARG..] (records in); complete COUNT SEED - PROGRAM [ARG..].
+PROFILE is turso, also where none is named, or sqlite; FOLDER is - for none";
 
 #[derive(Clone, Copy)]
 pub enum Mode {
@@ -20,6 +23,8 @@ pub enum Mode {
     /// With so many numbers lent.
     List(usize),
     Cut,
+    /// The text is a script of a stream's calls.
+    Stream,
     Word,
 }
 
@@ -39,6 +44,7 @@ impl Mode {
             ["sums"] => Mode::Sums,
             ["list", n] => n.parse().ok().filter(|&n| n <= list::MOST).map(Mode::List)?,
             ["cut"] => Mode::Cut,
+            ["stream"] => Mode::Stream,
             _ => return None,
         };
         Some((mode, profile.unwrap_or(Profile::Turso)))
@@ -51,6 +57,7 @@ impl Mode {
             Mode::Sums => vec!["sums".to_string()],
             Mode::List(n) => vec!["list".to_string(), n.to_string()],
             Mode::Cut => vec!["cut".to_string()],
+            Mode::Stream => vec!["stream".to_string()],
             Mode::Word => vec!["word".to_string()],
         };
         if profile == Profile::Sqlite {
@@ -65,6 +72,7 @@ impl Mode {
             Mode::Sums => print_walk(source, out, offset, text, sums),
             Mode::List(n) => print_list(source, out, n, offset, text),
             Mode::Cut => print_cut(source, out, offset, text),
+            Mode::Stream => print_stream(source, out, text),
             Mode::Word => print_word(out, text),
         }
     }
@@ -134,6 +142,41 @@ fn print_cut(source: Source, out: &mut impl Write, offset: usize, text: &[u8]) -
         Statement::Open(start, length, end) => writeln!(out, "OPEN\t{start}\t{length}\t{end}\n"),
         Statement::End(end) => writeln!(out, "END\t{end}\t0\t{end}\n"),
         Statement::Refusal(name, start, length, offset) => writeln!(out, "{name}\t{start}\t{length}\t{offset}\n"),
+    }
+}
+
+/// The answers to the script's calls of one stream. A part is offered again, less what was taken, while a token comes.
+fn print_stream(source: Source, out: &mut impl Write, mut script: &[u8]) -> io::Result<()> {
+    let mut stream = Stream::new(source);
+    while !script.is_empty() {
+        let Some((call, behind)) = script::first(script) else {
+            writeln!(out, "BADSCRIPT")?;
+            break;
+        };
+        match call {
+            Call::Part(mut part) => loop {
+                let (answer, taken) = stream.offer(part);
+                print_answer(out, &answer, taken)?;
+                part = &part[taken..];
+                if !matches!(answer, Answer::Token(..)) {
+                    break;
+                }
+            },
+            Call::Finish => print_answer(out, &stream.finish(), 0)?,
+        }
+        script = behind;
+    }
+    writeln!(out)
+}
+
+fn print_answer(out: &mut impl Write, answer: &Answer, taken: usize) -> io::Result<()> {
+    match *answer {
+        Answer::Token(kind, start, length) => writeln!(out, "{kind:?}\t{start}\t{length}\t{taken}"),
+        Answer::More => writeln!(out, "More\t{taken}"),
+        Answer::Stop(Stop::End(offset)) => writeln!(out, "END\t{offset}"),
+        Answer::Stop(Stop::Refusal(name, start, length, offset)) => {
+            writeln!(out, "{name}\t{start}\t{length}\t{offset}\t{taken}")
+        }
     }
 }
 

@@ -12,7 +12,7 @@ mod quoted;
 use crate::token::TokenType;
 use std::cmp::Ordering;
 
-#[derive(Clone, Copy, PartialEq, Eq)]
+#[derive(Clone, Copy, PartialEq, Eq, Hash)]
 pub enum Profile {
     /// Document 01, as the published lexer has it.
     Turso,

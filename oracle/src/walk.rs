@@ -7,7 +7,7 @@ use crate::token::TokenType;
 use std::io;
 
 /// Whose answers are given.
-#[derive(Clone, Copy)]
+#[derive(Clone, Copy, PartialEq, Eq, Hash)]
 pub enum Source {
     /// The published lexer, which has the profile `turso` alone.
     Published,
@@ -23,6 +23,13 @@ impl Source {
         }
     }
 
+    pub fn profile(self) -> Profile {
+        match self {
+            Source::Published => Profile::Turso,
+            Source::Second(profile) => profile,
+        }
+    }
+
     pub fn name(self) -> &'static str {
         match self {
             Source::Published => "the published lexer",
@@ -31,6 +38,7 @@ impl Source {
     }
 }
 
+#[derive(Clone, Copy, PartialEq, Eq)]
 pub enum Stop {
     /// The offset, which is the text's length.
     End(usize),
@@ -42,56 +50,57 @@ pub enum Stop {
 pub fn walk(
     source: Source,
     text: &[u8],
-    offset: usize,
-    token: impl FnMut(TokenType, usize, usize) -> io::Result<()>,
+    mut offset: usize,
+    mut token: impl FnMut(TokenType, usize, usize) -> io::Result<()>,
 ) -> io::Result<Stop> {
     if offset > text.len() {
         // The one deliberate difference: the published lexer gives None here, as at the end.
         return Ok(Stop::Refusal("OffsetPastEnd", 0, 0, offset));
     }
-    match source {
-        Source::Published => published(text, offset, token),
-        Source::Second(profile) => second(profile, text, offset, token),
+    loop {
+        match next(source, text, offset) {
+            Ok((kind, length)) => {
+                token(kind, offset, length)?;
+                offset += length;
+            }
+            Err(stop) => return Ok(stop),
+        }
     }
 }
 
-fn published(
-    text: &[u8],
-    offset: usize,
-    mut token: impl FnMut(TokenType, usize, usize) -> io::Result<()>,
-) -> io::Result<Stop> {
+/// Kind and length of the token at the offset, which is not past the end, or how a walk stops there.
+pub fn next(source: Source, text: &[u8], offset: usize) -> Result<(TokenType, usize), Stop> {
+    match source {
+        Source::Published => published(text, offset),
+        Source::Second(profile) => second(profile, text, offset),
+    }
+}
+
+/// The published lexer's state is its offset alone.
+fn published(text: &[u8], offset: usize) -> Result<(TokenType, usize), Stop> {
     let mut lexer = Lexer::new(text);
     lexer.offset = offset;
-    loop {
-        let start = lexer.offset;
-        match lexer.next() {
-            None => return Ok(Stop::End(start)),
-            Some(Ok(found)) => {
-                let span = &text[start..lexer.offset];
-                assert_eq!(found.value, span, "a token's value is not its span");
-                token(found.token_type, start, span.len())?;
-            }
-            Some(Err(error)) => return Ok(refusal(&error, lexer.offset)),
+    match lexer.next() {
+        None => Err(Stop::End(offset)),
+        Some(Ok(found)) => {
+            let span = &text[offset..lexer.offset];
+            assert_eq!(found.value, span, "a token's value is not its span");
+            Ok((found.token_type, span.len()))
         }
+        Some(Err(error)) => Err(refusal(&error, lexer.offset)),
     }
 }
 
-fn second(
-    profile: Profile,
-    text: &[u8],
-    mut offset: usize,
-    mut token: impl FnMut(TokenType, usize, usize) -> io::Result<()>,
-) -> io::Result<Stop> {
-    while offset < text.len() {
-        let Lexeme { length, answer } = second::next(profile, &text[offset..]);
-        match answer {
-            Answer::Token(kind) => token(kind, offset, length)?,
-            Answer::Refusal(name, start, span) => return Ok(Stop::Refusal(name, offset + start, span, offset)),
-            Answer::Stray => return Ok(Stop::Refusal(second::UNRECOGNIZED, offset, length, offset + length)),
-        }
-        offset += length;
+fn second(profile: Profile, text: &[u8], offset: usize) -> Result<(TokenType, usize), Stop> {
+    if offset == text.len() {
+        return Err(Stop::End(offset));
     }
-    Ok(Stop::End(offset))
+    let Lexeme { length, answer } = second::next(profile, &text[offset..]);
+    match answer {
+        Answer::Token(kind) => Ok((kind, length)),
+        Answer::Refusal(name, start, span) => Err(Stop::Refusal(name, offset + start, span, offset)),
+        Answer::Stray => Err(Stop::Refusal(second::UNRECOGNIZED, offset, length, offset + length)),
+    }
 }
 
 fn refusal(error: &Error, offset: usize) -> Stop {

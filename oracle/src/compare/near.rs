@@ -7,8 +7,8 @@ use super::random::Random;
 use super::walks::NEXT;
 use super::{lexemes, makers};
 
-const ALPHABETS: [(&str, &[u8]); 4] =
-    [("brackets", b"[]a'"), ("signs", b":$@a2>("), ("ampersands", b"&@>|"), ("exponents", b"1e_+.a")];
+pub const ALPHABETS: &[(&str, &[u8])] =
+    &[("brackets", b"[]a'"), ("signs", b":$@a2>("), ("ampersands", b"&@>|"), ("exponents", b"1e_+.a")];
 /// What such lexemes begin with, go on with and end at.
 const BYTES: &[u8] = b"[]:&@eE_$.0123>()+-'a ;";
 const GOOD: &[&[u8]] = &[
