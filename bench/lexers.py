@@ -82,6 +82,22 @@ def walk(machine, apart=None, form="o"):
     return compile_library(machine, OUT / f"{name}.{machine.name}.{form}", *flags, kept=walk_module(), apart=apart)
 
 
+@functools.cache
+def parts_module():
+    run(HERE / "parts", OUT / "parts")
+    return OUT / "parts"
+
+
+@functools.cache
+def parts(machine):
+    """A text offered to a stream in parts, and a walk by `next`, compiled."""
+    return compile_library(machine, OUT / f"parts.{machine.name}.o", kept=parts_module())
+
+
+def in_parts(size, profile=0):
+    return "stream_parts", lambda machine: [parts(machine)], [f"-DPROFILE={2 * size + profile}"]
+
+
 def has_x86(libraries):
     """Whether a Rust compiler's folder has the core library for x86-64."""
     return any(libraries.glob("libcore-*.rlib"))
@@ -150,6 +166,11 @@ LEXERS = {  # the symbol of List, what is linked, flags of the measuring program
     "walk": ("steps_walk", lambda machine: [walk(machine)], ["-DPROFILE=0"]),
     "walk:sqlite": ("steps_walk", lambda machine: [walk(machine)], ["-DPROFILE=1"]),
     "step": ("steps_walk", lambda machine: [walk(machine, STEP)], ["-DPROFILE=0"]),  # the same, with `step` a function of its own
+    "next": ("next_walk", lambda machine: [parts(machine)], ["-DPROFILE=0"]),  # from token to token
+    "parts of 1": in_parts(1),
+    "parts of 20": in_parts(20),
+    "parts of 244": in_parts(244),
+    "parts of 20:sqlite": in_parts(20, 1),
     "Rust": ("rust_list", of_rust, []),
     "Rust+": ("rust_list", of_rust_with_real_memchr, []),
     "SQLite": ("sqlite_list", of_sqlite, []),

@@ -6,6 +6,7 @@ import sys
 
 from lexers import KIT, SQLITE_SOURCE, UNPROVED, compile_library, is_archives
 from machines import M4, OUT, X86, Missing, run
+from packets import above, figures as in_parts, same_tokens
 from readings import a_step, code, figures, same_lexemes
 from space import linked, sizes, stacks
 from speed import cuts, growth, instructions, length, profile, same_lists, total
@@ -16,6 +17,8 @@ MOST_INSTRUCTIONS = {X86: 50, M4: 60}  # a byte
 MOST_GROWTH = 1  # percent from linear
 MOST_STEP = 30  # instructions
 MOST_STEPS_CODE = 2600  # bytes
+MOST_STREAM_STACK = 1024  # bytes
+MOST_ABOVE_NEXT = {20: 75, 1: 120}  # instructions a byte, by the size of the parts
 
 
 def part(title, measure, *arguments):
@@ -67,6 +70,9 @@ def main():
     part("The walk by step", same_lexemes)
     for machine in X86, M4:
         part(f"The walk by step, instructions of the text sync, {machine.name}", figures, machine)
+    part("Packet by packet", same_tokens)
+    for machine in X86, M4:
+        part(f"Packet by packet, instructions a byte, {machine.name}", in_parts, machine)
     worst = part("How List grows, x86-64: one text once, twice and four times", growth)
     bounds = [part(f"Stack in bytes, {machine.name}", stacks, machine) for machine in (X86, M4)]
     _, lookup = [part(f"Code size in bytes, {machine.name}", sizes, machine) for machine in (X86, M4)]
@@ -74,7 +80,8 @@ def main():
     for machine in X86, M4:
         part(f"List by function, text sync, {machine.name}", profile, machine)
     print("\n== Targets")
-    good = test("stack bound of a whole call, in bytes, both machines", max(bounds), MOST_STACK)
+    good = test("stack bound of a whole call, in bytes, both machines", max(calls for calls, _ in bounds), MOST_STACK)
+    good &= test("stack bound of a stream's call, in bytes, both machines", max(streams for _, streams in bounds), MOST_STREAM_STACK)
     good &= test("the lookup of a word with its tables, in bytes, Cortex-M4", lookup, MOST_LOOKUP)
     for machine, most in MOST_INSTRUCTIONS.items():
         for lexer in ours:
@@ -82,6 +89,8 @@ def main():
             good &= try_test(f"{lexer}, instructions a byte of the text sync, {machine.name}", a_byte, most)
     good &= try_test("a step, instructions as a function of its own, text sync, x86-64", lambda: a_step(X86), MOST_STEP)
     good &= try_test("the walk by step, bytes of code, Cortex-M4", lambda: code(M4), MOST_STEPS_CODE)
+    for size, most in MOST_ABOVE_NEXT.items():
+        good &= try_test(f"parts of {size}, instructions a byte of the text sync above a walk of Next, x86-64", lambda: above(X86, size), most)
     if worst is None:
         print("SKIPPED  growth: nothing was counted")
     else:

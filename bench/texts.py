@@ -2,7 +2,8 @@
 """bench/texts.py FOLDER: writes the texts that are measured, the same bytes on every machine. None of them has anything that is refused.
 
 sync.sql is like what a device gets from its phone: routes, waypoints and settings. grow1, grow2 and grow4 are one such text of 16,000
-bytes once, twice and four times, so that they differ in length alone. The others are of one kind of token each.
+bytes once, twice and four times, so that they differ in length alone. The others are of one kind of token each; the last three are what
+is dearest for a stream: lexemes nearly as long as it takes them, and tokens that are settled two bytes behind their ends.
 """
 import hashlib
 import pathlib
@@ -102,6 +103,9 @@ def texts():
     yield "floats", many(lambda: d.decimal(-180, 180, 7))
     yield "operators", (b"()+-*/,;<>=." * SIZE)[:SIZE]
     yield "string", b"'" + b"a" * (SIZE - 2) + b"'"
+    yield "comments", many(lambda: "/*" + "." * 2036 + "*/")
+    yield "digits", many(lambda: "1" + "_1" * 1000)
+    yield "colons", (b"$a:(" * SIZE)[:SIZE]
 
 
 if __name__ == "__main__":
