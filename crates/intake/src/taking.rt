@@ -1,4 +1,4 @@
-// Bytes of a part into the row, each through the machine once, until no byte more is wanted.
+// Bytes of a part into the row, each read as it comes, until no byte more is wanted.
 use crate::state::Stream;
 use readings::reading::Reading;
 use readings::tells::is_lexeme;

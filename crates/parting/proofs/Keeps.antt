@@ -26,7 +26,8 @@ use Rattle.stream.specs.declared.stream.Given.{Given}
 use Rattle.stream.specs.Refusals.{own}
 use Rattle.parting.specs.Means.{Says, Settled, Open}
 use Rattle.intake.specs.Takes.{limit, room, isOver, isReady, takes, front, waiting, readNow, takenOf, textOf, readThen, readyThen}
-use Rattle.stream.specs.Calls.{Told, more, tells, valuesOf, most, begun, lastEnd, shift, passed, after, holding, ended, closed, moved, Refuses, Wants, Answers, Goes, refuseClosed, refusePart, askMore, refuseLexeme, lex, Course, isOpen, isClosed, offering, Offered, Finished}
+use Rattle.stream.specs.Calls.{Told, more, tells, valuesOf, most, begun, lastEnd, shift, passed, after, holding, ended, closed}
+use Rattle.stream.specs.Calls.{moved, Refuses, Wants, Answers, Goes, refuseClosed, refusePart, askMore, refuseLexeme, lex, Course, isOpen, isClosed, offering, Offered, Finished}
 use Rattle.parting.specs.Histories.{Offers}
 use Rattle.intake.proofs.TakeLaws.{unready-room}
 use Rattle.stream.proofs.CallLaws.{takes-part, takes-room, allowed}
