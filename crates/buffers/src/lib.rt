@@ -1,0 +1,2 @@
+// What is answered of a result that goes into a lent buffer.
+pub mod written;

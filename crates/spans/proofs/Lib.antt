@@ -1,0 +1,4 @@
+pub mod KindLaws
+pub mod TokenLaws
+pub mod ReadingLaws
+pub mod Theorems

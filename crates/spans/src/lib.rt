@@ -1,0 +1,3 @@
+// Spans of a text that are tokens: what every call that reads a literal asks first.
+pub mod answers;
+pub mod span;
