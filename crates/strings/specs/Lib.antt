@@ -1,0 +1,4 @@
+pub mod Quotes
+pub mod Closing
+pub mod Calls
+pub mod Texts
