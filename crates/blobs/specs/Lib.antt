@@ -1,0 +1,3 @@
+pub mod Blobs
+pub mod Calls
+pub mod Texts
