@@ -1,0 +1,5 @@
+pub mod Alone
+pub mod Row
+pub mod Whole
+pub mod Forms
+pub mod Theorems
