@@ -8,8 +8,6 @@ use crate::lines::put_statement;
 use crate::lines::put_sums;
 use crate::lines::put_token;
 use crate::lines::put_why;
-use crate::numbers::put_column;
-use crate::numbers::put_number;
 use grammar::profile::Profile;
 use lexer::cursor::Cursor;
 use lexer::lexed::Lexed;
@@ -19,6 +17,8 @@ use lists::cut::cut;
 use lists::list::Listed;
 use lists::list::list;
 use reader::read_at;
+use rows::numbers::put_column;
+use rows::numbers::put_number;
 use rows::out::filled;
 use rows::out::put;
 use rows::out::put_byte;
@@ -28,7 +28,7 @@ ghost use Rattle.lexer.specs.Values.{LexesUnder};
 ghost use Rattle.rows.specs.Out.{Within};
 
 // How a text is walked: by `next`; so, and with each token's digits and underscores; with them, by a reader.
-pub(crate) enum Way {
+pub enum Way {
     Next,
     Sums,
     Reader,

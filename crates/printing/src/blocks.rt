@@ -11,7 +11,7 @@ ghost use Prim.Native.Nat.{_≤_};
 ghost use Rattle.io.specs.Counts.{Counts};
 ghost use Rattle.rows.specs.Out.{Within};
 
-pub(crate) fn put_walk_block(
+pub fn put_walk_block(
     out: &mut [u8],
     at: usize,
     names: &[u8; 2992],
@@ -27,7 +27,7 @@ pub(crate) fn put_walk_block(
 }
 
 // A list into the first n numbers, or into all where there are fewer.
-pub(crate) fn put_list_block(
+pub fn put_list_block(
     out: &mut [u8],
     at: usize,
     text: &[u8],
@@ -56,7 +56,7 @@ pub(crate) fn least(a: usize, b: usize) -> usize
     if a < b { a } else { b }
 }
 
-pub(crate) fn put_cut_block(
+pub fn put_cut_block(
     out: &mut [u8],
     at: usize,
     text: &[u8],
@@ -69,14 +69,14 @@ pub(crate) fn put_cut_block(
     put_byte(out, end, b'\n')
 }
 
-pub(crate) fn put_word_block(out: &mut [u8], at: usize, names: &[u8; 2992], word: &[u8]) -> usize
+pub fn put_word_block(out: &mut [u8], at: usize, names: &[u8; 2992], word: &[u8]) -> usize
     ensures { λ r. ⌜ Within (now (out .exit)) r ⌝ }
 {
     let end = put_word(out, at, names, word);
     put_byte(out, end, b'\n')
 }
 
-pub(crate) fn put_stream_block(
+pub fn put_stream_block(
     out: &mut [u8],
     at: usize,
     names: &[u8; 2992],

@@ -6,7 +6,7 @@ ghost use Prim.Native.Nat.{_<_};
 ghost use Rattle.rows.specs.Out.{Within};
 
 // The 176 names end to end, with dots behind each.
-pub(crate) fn all_names() -> [u8; 2992] {
+pub fn all_names() -> [u8; 2992] {
     let mut all = [b'.'; 2992];
     let mut kind = 0;
     while kind < 176 {

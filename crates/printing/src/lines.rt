@@ -1,7 +1,7 @@
 // The lines that are printed: names and numbers with a tab between them.
 use crate::kinds::put_kind;
-use crate::numbers::put_column;
 use lexer::lexed::Refusal;
+use rows::numbers::put_column;
 use rows::out::put;
 ghost use Rattle.rows.specs.Out.{Within};
 

@@ -9,10 +9,10 @@ ghost use lib.ListN.{length};
 ghost use Rattle.printing.specs.Rows.{Inside, Holds};
 
 // The bytes of the row that are read and not used yet: from one place to before another. `failed`: a read failed behind them.
-pub(crate) struct Unread {
-    pub(crate) from: usize,
-    pub(crate) to: usize,
-    pub(crate) failed: bool,
+pub struct Unread {
+    pub from: usize,
+    pub to: usize,
+    pub failed: bool,
 }
 
 // What one read gives: so many bytes, none at the end of the input and where it failed.
@@ -23,7 +23,7 @@ struct Got {
 
 // Text: where in the row it stands, and up to where the row is read. Over: the input ends where a record would start. Short: a record
 // of at least so many bytes is cut off. Bad: its text is longer than allowed, or the input cannot be read.
-pub(crate) enum Record {
+pub enum Record {
     Text {
         offset: usize,
         start: usize,
@@ -112,7 +112,7 @@ fn inside(row: &[u8], unread: Unread) -> Unread
 }
 
 // Nothing is read yet.
-pub(crate) fn unread_none() -> Unread
+pub fn unread_none() -> Unread
     ensures { λ r. ⌜ (r .from ≡ 0) × (r .to ≡ 0) ⌝ }
 {
     Unread {
@@ -142,7 +142,7 @@ fn found_in(row: &[u8], unread: Unread) -> Record
 }
 
 // The next record. Unread bytes that do not lie in the row count as none.
-pub(crate) fn read_record(row: &mut [u8], unread: Unread) -> Record
+pub fn read_record(row: &mut [u8], unread: Unread) -> Record
     ensures { λ r. ⌜ Holds (now (row .exit)) r ⌝ }
 {
     let kept = inside(row, unread);

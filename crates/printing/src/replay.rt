@@ -15,7 +15,7 @@ use lists::list::list;
 ghost use Prim.Native.Nat.{_≤_};
 ghost use Rattle.rows.specs.Out.{Within};
 
-pub(crate) fn put_replay(
+pub fn put_replay(
     out: &mut [u8],
     at: usize,
     names: &[u8; 2992],

@@ -3,9 +3,9 @@
 use crate::lines::put_counted_place;
 use crate::lines::put_token;
 use crate::lines::put_why;
-use crate::numbers::put_column;
 use grammar::profile::Profile;
 use intake::state::Stream;
+use rows::numbers::put_column;
 use rows::out::filled;
 use rows::out::put;
 use stream::calls::finish;

@@ -1,7 +1,7 @@
 // The mode and the profile that the program's arguments ask for.
+use batch::Mode;
 use grammar::profile::Profile;
 use printing::MOST;
-use printing::batch::Mode;
 ghost use Prim.Native.Nat.{_≤_, _<_};
 
 pub(crate) enum Asked {
@@ -35,10 +35,16 @@ fn asked_mode(word: &[u8]) -> Asked {
         return with_profile(Mode::Cut, 2);
     }
     if check::same(word, b"word") {
-        return asked_word();
+        return without_profile(Mode::Word);
     }
     if check::same(word, b"stream") {
         return with_profile(Mode::Stream, 2);
+    }
+    if check::same(word, b"literal") {
+        return with_profile(Mode::Literal, 2);
+    }
+    if check::same(word, b"write") {
+        return without_profile(Mode::Write);
     }
     Asked::Unknown
 }
@@ -52,10 +58,10 @@ fn asked_list() -> Asked {
     with_profile(Mode::List(numbers), 3)
 }
 
-// A word is looked up the same way under each profile.
-fn asked_word() -> Asked {
+// A word is looked up, and a literal written, the same way under each profile.
+fn without_profile(mode: Mode) -> Asked {
     if os::arg_count() == 2 {
-        return Asked::For(Mode::Word, Profile::Turso);
+        return Asked::For(mode, Profile::Turso);
     }
     Asked::Unknown
 }

@@ -1,9 +1,9 @@
 // Numbers in decimal digits.
-use rows::out::put;
-use rows::out::put_byte;
+use crate::out::put;
+use crate::out::put_byte;
 ghost use Rattle.rows.specs.Out.{Within};
 
-pub(crate) fn put_number(row: &mut [u8], at: usize, n: usize) -> usize
+pub fn put_number(row: &mut [u8], at: usize, n: usize) -> usize
     ensures { λ r. ⌜ Within (now (row .exit)) r ⌝ }
 {
     let mut digits = [0u8; 20];
@@ -12,7 +12,7 @@ pub(crate) fn put_number(row: &mut [u8], at: usize, n: usize) -> usize
 }
 
 // A tab and the number.
-pub(crate) fn put_column(row: &mut [u8], at: usize, n: usize) -> usize
+pub fn put_column(row: &mut [u8], at: usize, n: usize) -> usize
     ensures { λ r. ⌜ Within (now (row .exit)) r ⌝ }
 {
     let end = put_byte(row, at, b'\t');

@@ -1,26 +1,17 @@
--- `printing::batch::answer_records` is safe, and ends since its turns are counted down. Assumes nothing.
-use Prim.Native.Nat.{ℕ, _≤_}
-use mathlib.Core.Path.{_≡_, subst}
-use mathlib.Core.List.{List}
+-- `batch::answer_records` is safe, and ends since its turns are counted down. Assumes nothing.
+use mathlib.Core.Path.{_≡_}
 use lib.ListN.{length}
 use borrow.Author.Needs.{needs}
-use Rattle.printing.specs.declared.records.Record.{Record}
-use Rattle.printing.specs.declared.records.Record.the-variants.{Text}
-use Rattle.printing.specs.Rows.{Holds}
-use Rattle.printing.proofs.batch.answer_records.Statement.{statement}
-use Rattle.printing.proofs.batch.answer_records.Tie as tie
-
--- a text that was read lies in the row
-inside : (row : List ℕ) {offset start end to : ℕ} {r : Record} → r ≡ Text offset start end to → Holds row r
-    → (start ≤ end) × (end ≤ to) × (to ≤ length row)
-inside row e h = subst (Holds row) e h
+use Rattle.batch.proofs.Found.{inside}
+use Rattle.batch.proofs.answer_records.Statement.{statement}
+use Rattle.batch.proofs.answer_records.Tie as tie
 
 abbrev Inv-loop : tie.InvT-loop
-Inv-loop mode profile names numbers₀ held₀ row₀ out₀ unread₀ at₀ turns₀ numbers held row out unread at turns =
+Inv-loop mode profile names numbers₀ held₀ lent₀ row₀ out₀ unread₀ at₀ turns₀ numbers held lent row out unread at turns =
     (length numbers ≡ length numbers₀) × (length row ≡ length row₀) × (length out ≡ length out₀)
 
 abbrev μ-loop : tie.MeasureT-loop
-μ-loop mode profile names numbers₀ held₀ row₀ out₀ unread₀ at₀ turns₀ numbers held row out unread at turns = turns
+μ-loop mode profile names numbers₀ held₀ lent₀ row₀ out₀ unread₀ at₀ turns₀ numbers held lent row out unread at turns = turns
 
 unread-none-requires : tie.Need-unread-none-requires Inv-loop μ-loop
 unread-none-requires c κs = search needs
@@ -30,6 +21,9 @@ loop-holds c = search needs
 
 read-record-requires : tie.Need-read-record-requires Inv-loop μ-loop
 read-record-requires c κs = search needs
+
+taken-requires : tie.Need-taken-requires Inv-loop μ-loop
+taken-requires c κs = search needs
 
 enum-known-found : tie.Need-enum-known-found Inv-loop μ-loop
 enum-known-found c = search needs
@@ -51,20 +45,20 @@ returns c = search needs
 
 sub-put-answer : tie.Need-sub-put-answer Inv-loop μ-loop
 sub-put-answer c =
-    let r = c .before .before .before .before .before .before in
-    let h = inside (r .read-record .last .0) (c .before .before .found .given .1) (r .read-record .ensures) in
+    let t = c .before .before .before .before in
+    let h = inside _ (c .before .before .found .given .1) (t .taken .ensures) in
     search needs
 
 part-put-answer-start : tie.Need-part-put-answer-start Inv-loop μ-loop
 part-put-answer-start c =
-    let r = c .before .before .before .before .before .before .before in
-    let h = inside (r .read-record .last .0) (c .before .before .before .found .given .1) (r .read-record .ensures) in
+    let t = c .before .before .before .before .before in
+    let h = inside _ (c .before .before .before .found .given .1) (t .taken .ensures) in
     search needs
 
 part-put-answer-end : tie.Need-part-put-answer-end Inv-loop μ-loop
 part-put-answer-end c =
-    let r = c .before .before .before .before .before .before .before in
-    let h = inside (r .read-record .last .0) (c .before .before .before .found .given .1) (r .read-record .ensures) in
+    let t = c .before .before .before .before .before in
+    let h = inside _ (c .before .before .before .found .given .1) (t .taken .ensures) in
     search needs
 
 put-answer-requires : tie.Need-put-answer-requires Inv-loop μ-loop
@@ -103,6 +97,7 @@ answer-records-spec =
     unread-none-requires
     loop-holds
     read-record-requires
+    taken-requires
     enum-known-found
     print-last-requires
     same-length

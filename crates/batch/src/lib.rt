@@ -1,24 +1,29 @@
-// What a program prints of each record of its input.
-use crate::answers::Way;
-use crate::blocks::put_cut_block;
-use crate::blocks::put_list_block;
-use crate::blocks::put_stream_block;
-use crate::blocks::put_walk_block;
-use crate::blocks::put_word_block;
-use crate::kinds::all_names;
-use crate::records::Record;
-use crate::records::Unread;
-use crate::records::read_record;
-use crate::records::unread_none;
-use crate::replay::put_replay;
+// What `sqlbatch` and `replay` print of each record of their input.
 use grammar::profile::Profile;
+use printing::answers::Way;
+use printing::blocks::put_cut_block;
+use printing::blocks::put_list_block;
+use printing::blocks::put_stream_block;
+use printing::blocks::put_walk_block;
+use printing::blocks::put_word_block;
+use printing::kinds::all_names;
+use printing::records::Record;
+use printing::records::Unread;
+use printing::records::read_record;
+use printing::records::unread_none;
+use printing::replay::put_replay;
 use rows::out::flush;
 use rows::out::put;
+use shown::reads::is_literal_record;
+use shown::reads::put_literals;
+use shown::writes::is_write_record;
+use shown::writes::put_writes;
 ghost use Rattle.rows.specs.Out.{Within};
+ghost use Rattle.printing.specs.Rows.{Holds};
 
 // What is printed of a record: `next` walked over the text, also with the tokens' digits and underscores, a list of so many numbers, the
-// statement cut, the text as a word, or as a script of a stream's calls; or, for `Replay`, the walk, the walk by a reader, lists of
-// several lengths and the cut.
+// statement cut, the text as a word, or as a script of a stream's calls, a span's literals read, or the text written as literals; or, for
+// `Replay`, the walk, the walk by a reader, lists of several lengths and the cut.
 pub enum Mode {
     Next,
     Sums,
@@ -26,17 +31,21 @@ pub enum Mode {
     Cut,
     Word,
     Stream,
+    Literal,
+    Write,
     Replay,
 }
 
-// Answers each record of standard input under the profile; a word's lookup has none. One that is too long or cut off, or cannot be read,
-// prints BADRECORD and is the last.
+// Answers each record of standard input under the profile; a word's lookup and what is written have none. One that is too long or cut off,
+// or cannot be read, or that the mode does not take, prints BADRECORD and is the last.
 pub fn print_records(mode: Mode, profile: Profile) {
     let names = all_names();
     // `Replay` lends four more than a list fills.
     let mut numbers = [0u32; 196609];
     // What a stream holds.
     let mut held = [0u8; 2050];
+    // What is read of literals, and what is written: no record of `shown` asks for more.
+    let mut lent = [0u8; 262144];
     let mut row = [0u8; 131072];
     let mut out = io::large_buffer();
     answer_records(
@@ -45,6 +54,7 @@ pub fn print_records(mode: Mode, profile: Profile) {
         &names,
         &mut numbers,
         &mut held,
+        &mut lent,
         &mut row,
         &mut out,
     );
@@ -57,6 +67,7 @@ fn answer_records(
     names: &[u8; 2992],
     numbers: &mut [u32],
     held: &mut [u8; 2050],
+    lent: &mut [u8; 262144],
     row: &mut [u8],
     out: &mut [u8],
 ) {
@@ -64,7 +75,8 @@ fn answer_records(
     let mut at = 0;
     let mut turns = u64::MAX;
     while turns > 0 {
-        let found = read_record(row, unread);
+        let read = read_record(row, unread);
+        let found = taken(row, mode, read);
         let Record::Text {
             offset,
             start,
@@ -85,6 +97,7 @@ fn answer_records(
             offset,
             numbers,
             held,
+            lent,
         );
         unread = Unread {
             from: end,
@@ -94,6 +107,34 @@ fn answer_records(
         turns -= 1;
     }
     flush(out, at);
+}
+
+// A record that the mode does not take is a bad one.
+fn taken(row: &[u8], mode: Mode, found: Record) -> Record
+    requires { ⌜ Holds (now row) found ⌝ }
+    ensures { λ r. ⌜ Holds (now (row .entry)) r ⌝ }
+{
+    let Record::Text {
+        offset,
+        start,
+        end,
+        to: _,
+    } = found
+    else {
+        return found;
+    };
+    if is_taken(mode, &row[start..end], offset) {
+        return found;
+    }
+    Record::Bad
+}
+
+fn is_taken(mode: Mode, text: &[u8], offset: usize) -> bool {
+    match mode {
+        Mode::Literal => is_literal_record(text),
+        Mode::Write => is_write_record(offset),
+        _ => true,
+    }
 }
 
 fn print_last(out: &mut [u8], at: usize, found: Record) {
@@ -115,6 +156,7 @@ fn put_answer(
     offset: usize,
     numbers: &mut [u32],
     held: &mut [u8; 2050],
+    lent: &mut [u8; 262144],
 ) -> usize
     ensures { λ r. ⌜ Within (now (out .exit)) r ⌝ }
 {
@@ -125,6 +167,8 @@ fn put_answer(
         Mode::Cut => put_cut_block(out, at, text, offset, profile),
         Mode::Word => put_word_block(out, at, names, text),
         Mode::Stream => put_stream_block(out, at, names, text, profile, held),
+        Mode::Literal => put_literals(out, at, text, offset, profile, lent),
+        Mode::Write => put_writes(out, at, text, offset, lent),
         Mode::Replay => put_replay(out, at, names, text, offset, profile, numbers),
     }
 }
