@@ -1,6 +1,6 @@
 /*
- * sqllex.h: a SQL lexer for C and C++. examples/tokens.c calls sqllex_list_from, examples/stream.c lexes a text in small parts, and
- * examples/tokens.rs calls sqllex_next from Rust.
+ * sqllex.h: a SQL lexer for C and C++. examples/tokens.c calls sqllex_list_from, examples/stream.c lexes a text in small parts,
+ * examples/settings.c reads the literals of such a text as they arrive, and examples/tokens.rs calls sqllex_next from Rust.
  *
  * Declares the calls of target/staticlib/libcapi.a, which `rt staticlib capi` proves and builds from crates/capi. The archive is
  * code for x86-64 Linux, needs no other library, and follows that system's calling convention, SSE registers and the red zone
@@ -8,20 +8,22 @@
  *
  * What every call does. It returns, whatever the bytes; a text may hold any bytes, zeros too, and needs no zero behind it. It reads
  * the text alone, and writes only the list's first numbers and the answer, as said below; a call of a stream reads the stream, the
- * row and the part alone, and writes only the stream, the row and what is given. It uses no heap, no variable of its own outside the
- * stack and no call of the system, so that any number of threads may call at once, on one text too, each with its own list and answer,
- * or its own stream, row and place for what is given.
+ * row and the part alone, and writes only the stream, the row and what is given; one that reads or writes a literal reads the text or
+ * the value alone, and writes only the buffer's first bytes and where the value or the count goes. It uses no heap, no variable of its
+ * own outside the stack and no call of the system, so that any number of threads may call at once, on one text too, each with its own
+ * list and answer, its own stream, row and place for what is given, or its own buffer and place for a value or a count.
  *
  * What a caller owes. Nothing tests these: a call that breaks one has no meaning.
- * - A text, a part of one or a word is two arguments, where its first byte is and how many bytes there are; a list as well, where its
- *   length is the number of its uint32_t (not of bytes, not of records). So many must be there, in one object that lives until the
- *   call returns. With a length of 0 nothing is read or written there, and the pointer may be null.
+ * - A text, a part of one, a word, a value's bytes or a buffer is two arguments, where its first byte is and how many bytes there are;
+ *   a list as well, where its length is the number of its uint32_t (not of bytes, not of records). So many must be there, in one
+ *   object that lives until the call returns. With a length of 0 nothing is read or written there, and the pointer may be null.
  * - A row has SQLLEX_ROW_LENGTH bytes.
- * - A list and a stream are aligned as uint32_t is, an answer and what is given as size_t is; an answer, a stream, a row and what is
- *   given are never null. None needs values beforehand, but that a stream is begun first.
- * - Text, list and answer of one call do not overlap, nor do stream, row, part and what is given; and nobody else writes to them while
- *   it runs: no thread, interrupt or DMA.
- * - An offset may be any number. One past the end is refused and reads nothing.
+ * - A list and a stream are aligned as uint32_t is, an answer, what is given and a count as size_t is, a value as int64_t is; an
+ *   answer, a stream, a row, what is given, `value` of sqllex_read_integer and `bytes` are never null. None needs values beforehand,
+ *   but that a stream is begun first.
+ * - Text, list and answer of one call do not overlap, nor do stream, row, part and what is given, nor do text or value, buffer, and
+ *   where the value or the count goes; and nobody else writes to them while it runs: no thread, interrupt or DMA.
+ * - An offset may be any number, and so may a span's start and length. One past the end is refused and reads nothing.
  * - A profile may be any number. With one that is neither of the two below nothing is read or written.
  * - Stream and row are the caller's, who leaves both as they are between the calls of one text. A call that finds other numbers or
  *   bytes in them has a meaning still: it does what every call does, but its answer says nothing of a text.
@@ -98,7 +100,7 @@ _Static_assert(sizeof(sqllex_stream) == 24, "the library's streams are six words
 
 /*
  * Statuses: 0, nothing is left; 1 to 99, a refusal, 99 that of a number that is no profile's, 98 that of six numbers that are no
- * stream's; 100 to 102, a find; 103, a stream wants more bytes.
+ * stream's; 100 to 102, a find; 103, a stream wants more bytes; 104, a literal was read or written.
  */
 #define SQLLEX_END 0u
 #define SQLLEX_UNRECOGNIZED_TOKEN 1u
@@ -111,6 +113,9 @@ _Static_assert(sizeof(sqllex_stream) == 24, "the library's streams are six words
 #define SQLLEX_OFFSET_PAST_END 8u
 #define SQLLEX_TOO_LONG 9u
 #define SQLLEX_LIST_FULL 10u
+#define SQLLEX_NOT_THAT_LITERAL 11u
+#define SQLLEX_OUT_OF_RANGE 12u
+#define SQLLEX_NO_ROOM 13u
 #define SQLLEX_LEXEME_TOO_LONG 14u
 #define SQLLEX_CLOSED 15u
 #define SQLLEX_UNKNOWN_STREAM 98u
@@ -119,6 +124,7 @@ _Static_assert(sizeof(sqllex_stream) == 24, "the library's streams are six words
 #define SQLLEX_CUT 101u
 #define SQLLEX_OPEN 102u
 #define SQLLEX_MORE 103u
+#define SQLLEX_DONE 104u
 
 /* The longest text that list and list_from take, in bytes. next and cut take any. */
 #define SQLLEX_LONGEST_TEXT 65535u
@@ -313,7 +319,7 @@ _Static_assert(sizeof(sqllex_stream) == 24, "the library's streams are six words
 /*
  * The kinds and the refusals once more, in the order of their numbers, for tables. X is a macro of yours that takes a kind as
  * TK_NONE, or a refusal as UNRECOGNIZED_TOKEN, UnrecognizedToken: the constant without SQLLEX_, and the name that sqllex prints.
- * Kinds leave no number out; the refusals have neither 0 nor 11 to 13.
+ * Kinds leave no number out; the refusals have no 0.
  *
  *     #define NAME(kind) #kind,
  *     static const char *const kind_names[] = {SQLLEX_KINDS(NAME)};
@@ -351,6 +357,9 @@ _Static_assert(sizeof(sqllex_stream) == 24, "the library's streams are six words
     X(OFFSET_PAST_END, OffsetPastEnd) \
     X(TOO_LONG, TooLong) \
     X(LIST_FULL, ListFull) \
+    X(NOT_THAT_LITERAL, NotThatLiteral) \
+    X(OUT_OF_RANGE, OutOfRange) \
+    X(NO_ROOM, NoRoom) \
     X(LEXEME_TOO_LONG, LexemeTooLong) \
     X(CLOSED, Closed)
 
@@ -505,6 +514,77 @@ uint32_t sqllex_stream_offer(sqllex_stream *stream, uint8_t *row, const uint8_t 
  * nothing, and its status is never SQLLEX_MORE.
  */
 uint32_t sqllex_stream_finish(sqllex_stream *stream, uint8_t *row, sqllex_given *given);
+
+/*
+ * Literals: read from a span of a text, which is a start and a length, and written from a value.
+ *
+ *     status                    when
+ *     SQLLEX_DONE               the value was read, the literal was written
+ *     SQLLEX_UNKNOWN_PROFILE    the number is no profile's; only the calls that read take one
+ *     SQLLEX_NOT_THAT_LITERAL   the span is no literal that the call reads
+ *     SQLLEX_OUT_OF_RANGE       sqllex_read_integer: the number is no int64_t
+ *     SQLLEX_NO_ROOM            the bytes, or the literal's, are more than buffer_length
+ *
+ * Where several refusals are due, the first in this table comes. With SQLLEX_DONE the value is written; by a call with a buffer the bytes
+ * are, from the buffer's first on, and to `*bytes` how many they are; the buffer's bytes behind them stay as they were. With any other
+ * status nothing is written: neither value nor count nor a byte of the buffer.
+ *
+ * A span is read that is exactly the token which sqllex_next gives at its start under that profile, of the kind that the call reads; so it
+ * is best that of an answer or of a record. Any other is SQLLEX_NOT_THAT_LITERAL: one that ends before that token's end or behind it, one
+ * of no bytes, and one that ends past the text, also where its end is greater than any size_t.
+ *
+ * A token of a stream is read from the row's front, where its bytes are until the next call with that row, as a text of its own, under the
+ * stream's profile:
+ *
+ *     sqllex_read_integer(row, given.answer.length, 0, given.answer.length, profile, &value)
+ *
+ * By themselves its bytes are one token of the same kind, whatever followed them.
+ *
+ * A literal that was written is read back to the value, for every value and under both profiles. Of a literal that is read and written
+ * again the text may be another, with the same value: underscores and zeros before a number are gone, and hexadecimal where the value is
+ * not negative; digits from A to F are capitals, and the x of a blob or a number is small; a name in backticks or brackets has double
+ * quotes.
+ */
+
+/*
+ * The value of a token of kind SQLLEX_TK_INTEGER, to `*value`: a decimal number up to 9223372036854775807, or a hexadecimal one of up to
+ * 64 bits, zeros before it not counted, which is taken as two's complement: 0xFFFFFFFFFFFFFFFF is -1. Underscores do not count. A minus
+ * is a token of its own, so that no literal is the decimal -9223372036854775808.
+ */
+uint32_t sqllex_read_integer(const uint8_t *text, size_t text_length, size_t start, size_t length, uint32_t profile, int64_t *value);
+
+/*
+ * The bytes of a token of kind SQLLEX_TK_STRING, to the buffer's front, and to `*bytes` how many they are: what stands between its
+ * quotes, each doubled quote made one. They are never more than length - 2.
+ */
+uint32_t sqllex_read_string(const uint8_t *text, size_t text_length, size_t start, size_t length, uint32_t profile, uint8_t *buffer,
+                            size_t buffer_length, size_t *bytes);
+
+/*
+ * The same of a quoted name, a token of kind SQLLEX_TK_ID that begins with `"` or a backtick, under SQLLEX_SQLITE also with `[`, whose
+ * bytes are those up to the first `]`. A bare word is of that kind too, and is SQLLEX_NOT_THAT_LITERAL: its bytes are the token's.
+ */
+uint32_t sqllex_read_name(const uint8_t *text, size_t text_length, size_t start, size_t length, uint32_t profile, uint8_t *buffer,
+                          size_t buffer_length, size_t *bytes);
+
+/* The same of a token of kind SQLLEX_TK_BLOB: a byte for each two hexadecimal digits, (length - 3) / 2 of them. */
+uint32_t sqllex_read_blob(const uint8_t *text, size_t text_length, size_t start, size_t length, uint32_t profile, uint8_t *buffer,
+                          size_t buffer_length, size_t *bytes);
+
+/*
+ * The literal of a value, to the buffer's front, and to `*bytes` how many bytes it has: in decimal, 1 to 19 bytes; of a negative value
+ * `0x` and sixteen hexadecimal digits in capitals, 18 bytes. So a buffer of 19 has room for each.
+ */
+uint32_t sqllex_write_integer(int64_t value, uint8_t *buffer, size_t buffer_length, size_t *bytes);
+
+/* The string literal of bytes: each `'` doubled, between two of them. Its length is value_length + 2 and one for each `'`. */
+uint32_t sqllex_write_string(const uint8_t *value, size_t value_length, uint8_t *buffer, size_t buffer_length, size_t *bytes);
+
+/* The quoted name of bytes: the same with `"`. */
+uint32_t sqllex_write_name(const uint8_t *value, size_t value_length, uint8_t *buffer, size_t buffer_length, size_t *bytes);
+
+/* The blob of bytes: `x'`, two hexadecimal digits in capitals for each byte, `'`. Its length is 2 * value_length + 3. */
+uint32_t sqllex_write_blob(const uint8_t *value, size_t value_length, uint8_t *buffer, size_t buffer_length, size_t *bytes);
 
 #ifdef __cplusplus
 }

@@ -3,13 +3,16 @@
  *
  * calls PLACE next|sums|list N|cut [turso|sqlite]  reads records as sqlbatch does, and prints what sqlbatch prints of them
  * calls PLACE stream [turso|sqlite]                the same, of records that are scripts of a stream's calls
+ * calls PLACE literal [turso|sqlite]               the same, of records that are a span to be read and a buffer's length
+ * calls PLACE write                                the same, of records whose offset is a buffer's length
  * calls PLACE word                                 the same, of records that are words
  * calls PLACE replay                               prints what the program replay prints of them
  * calls PLACE edges                                tries the calls that stand below with their answers
  *
- * PLACE, front or back, says where a text, list, answer, stream or row lies in its room between two such pages: at its beginning or at
- * its end. In every mode what a call must leave alone is seen to be as it was: the bytes beside all that is written, the list's numbers
- * behind the records, the row's bytes behind those held, and the text or part, which cannot be written.
+ * PLACE, front or back, says where a text, list, answer, stream, row, buffer, value or count lies in its room between two such pages: at
+ * its beginning or at its end. In every mode what a call must leave alone is seen to be as it was: the bytes beside all that is written,
+ * the list's numbers behind the records, the row's bytes behind those held, a value or a count that is not set, and the text or part,
+ * which cannot be written.
  */
 #define _DEFAULT_SOURCE
 #include <stdio.h>
@@ -1295,6 +1298,687 @@ static void try_any_stream(void)
                 try_state(phase, reading);
 }
 
+/*
+ * Literals. The value, and the number of bytes of a result, lie in rooms of their own, and are set before a call to what no call would
+ * write by chance: with any status but SQLLEX_DONE they must be so afterwards.
+ */
+#define BUFFER_MOST 262144u
+static struct room value_room, count_room, buffer_room;
+static uint8_t *buffer;
+static size_t buffer_length;
+
+typedef uint32_t read_function(const uint8_t *text, size_t text_length, size_t start, size_t length, uint32_t profile, uint8_t *buffer,
+                               size_t buffer_length, size_t *bytes);
+typedef uint32_t write_function(const uint8_t *value, size_t value_length, uint8_t *buffer, size_t buffer_length, size_t *bytes);
+
+static uint32_t call_read_integer(size_t start, size_t length, int64_t *said)
+{
+    int64_t *value = lend(value_room, sizeof *value);
+    uint32_t status = sqllex_read_integer(text, text_length, start, length, profile, value);
+    if (status == SQLLEX_DONE) {
+        *said = *value;
+        lend_again(value, sizeof *value);
+    }
+    look_at_lent(value, sizeof *value, "a value was written that was not read, or a byte beside it");
+    require(status == SQLLEX_DONE || status == SQLLEX_NOT_THAT_LITERAL || status == SQLLEX_OUT_OF_RANGE, "no status of an integer");
+    return status;
+}
+
+static uint32_t counted(uint32_t status, size_t *count, size_t *bytes)
+{
+    if (status == SQLLEX_DONE) {
+        *bytes = *count;
+        require(*bytes <= buffer_length, "more bytes than the buffer has");
+        lend_again(count, sizeof *count);
+    }
+    look_at_lent(count, sizeof *count, "a count was written of what is refused, or a byte beside it");
+    return status;
+}
+
+/* A span of the text is read into the buffer, which has been set. */
+static uint32_t call_read(read_function *read, size_t start, size_t length, size_t *bytes)
+{
+    size_t *count = lend(count_room, sizeof *count);
+    uint32_t status = counted(read(text, text_length, start, length, profile, buffer, buffer_length, count), count, bytes);
+    require(status == SQLLEX_DONE || status == SQLLEX_NOT_THAT_LITERAL || status == SQLLEX_NO_ROOM, "no status of a read");
+    return status;
+}
+
+/* The literal of the text's bytes. */
+static uint32_t call_write(write_function *write, size_t *bytes)
+{
+    size_t *count = lend(count_room, sizeof *count);
+    uint32_t status = counted(write(text, text_length, buffer, buffer_length, count), count, bytes);
+    require(status == SQLLEX_DONE || status == SQLLEX_NO_ROOM, "no status of a write");
+    return status;
+}
+
+static uint32_t call_write_integer(int64_t value, size_t *bytes)
+{
+    size_t *count = lend(count_room, sizeof *count);
+    uint32_t status = counted(sqllex_write_integer(value, buffer, buffer_length, count), count, bytes);
+    require(status == SQLLEX_DONE || status == SQLLEX_NO_ROOM, "no status of a write");
+    return status;
+}
+
+/* The buffer that is printed, each byte set to the same. */
+static void unset_buffer(size_t length)
+{
+    require(length <= BUFFER_MOST, "a bad record");
+    buffer = unset(buffer_room, length);
+    buffer_length = length;
+}
+
+static void print_buffer(const char *title, uint32_t status, size_t bytes)
+{
+    look_beside(buffer, buffer_length, "a byte beside the buffer was written");
+    if (status == SQLLEX_DONE)
+        printf("%s\t%zu\t", title, bytes);
+    else
+        printf("%s\t%s\t", title, refusal_names[status]);
+    for (size_t i = 0; i < buffer_length; i++)
+        printf("%02X", buffer[i]);
+    printf("%s\n", buffer_length == 0 ? "-" : "");
+}
+
+static void print_read(const char *title, read_function *read, size_t start, size_t length, size_t room)
+{
+    size_t bytes = 0;
+    unset_buffer(room);
+    uint32_t status = call_read(read, start, length, &bytes);
+    print_buffer(title, status, bytes);
+}
+
+static void print_written(const char *title, write_function *write, size_t room)
+{
+    size_t bytes = 0;
+    unset_buffer(room);
+    uint32_t status = call_write(write, &bytes);
+    print_buffer(title, status, bytes);
+}
+
+/* `count` bytes, lowest first. */
+static uint64_t number_at(const uint8_t *bytes, int count)
+{
+    uint64_t number = 0;
+    while (count-- > 0)
+        number = number * 256 + bytes[count];
+    return number;
+}
+
+/* The span's length and the buffer's, 4 bytes each, and the text that the span is of. */
+static void print_literal(size_t start)
+{
+    static uint8_t record[TEXT_MOST];
+    size_t size = text_length;
+    int64_t value = 0;
+    require(size >= 8, "a bad record");
+    memcpy(record, text, size);
+    size_t length = number_at(record, 4), room = number_at(record + 4, 4);
+    set_text(record + 8, size - 8);
+    uint32_t status = call_read_integer(start, length, &value);
+    if (status == SQLLEX_DONE)
+        printf("INTEGER\t%lld\n", (long long)value);
+    else
+        printf("INTEGER\t%s\n", refusal_names[status]);
+    print_read("STRING", sqllex_read_string, start, length, room);
+    print_read("NAME", sqllex_read_name, start, length, room);
+    print_read("BLOB", sqllex_read_blob, start, length, room);
+    printf("\n");
+}
+
+static int64_t signed_number(uint64_t bits)
+{
+    return bits <= INT64_MAX ? (int64_t)bits : -1 - (int64_t)(UINT64_MAX - bits);
+}
+
+static void print_write(size_t room)
+{
+    size_t bytes = 0;
+    print_written("STRING", sqllex_write_string, room);
+    print_written("NAME", sqllex_write_name, room);
+    print_written("BLOB", sqllex_write_blob, room);
+    unset_buffer(room);
+    uint32_t status = call_write_integer(text_length < 8 ? 0 : signed_number(number_at(text, 8)), &bytes);
+    print_buffer("INTEGER", status, bytes);
+    printf("\n");
+}
+
+/* A buffer of `edges`: what a call leaves of it must be as it was lent, all of it where the call is refused. */
+static void lend_buffer(size_t length)
+{
+    buffer = lend(buffer_room, length);
+    buffer_length = length;
+}
+
+static uint8_t result[BUFFER_MOST];
+
+static void take_result(uint32_t status, size_t bytes)
+{
+    if (status == SQLLEX_DONE) {
+        memcpy(result, buffer, bytes);
+        lend_again(buffer, bytes);
+    }
+    look_at_lent(buffer, buffer_length, "a byte of a buffer was written that is none of the result");
+}
+
+/* A result that must be these bytes, for a buffer of each length that makes a difference; it is told by `call`. */
+static void expect_result(int line, uint32_t (*call)(void *with, size_t *bytes), void *with, const void *wanted, size_t length)
+{
+    size_t lengths[] = {length, length + 1, length + 40, length > 0 ? length - 1 : 0, length / 2, 0};
+    for (size_t i = 0; i < sizeof lengths / sizeof *lengths; i++) {
+        size_t bytes = 0;
+        lend_buffer(lengths[i]);
+        uint32_t status = call(with, &bytes);
+        take_result(status, bytes);
+        if (length > lengths[i] ? status == SQLLEX_NO_ROOM
+                                : status == SQLLEX_DONE && bytes == length && memcmp(result, wanted, length) == 0)
+            continue;
+        fprintf(stderr, "calls: line %d: the status is %u, the bytes are %zu, into %zu\n", line, (unsigned)status, bytes, lengths[i]);
+        exit(1);
+    }
+    /* no buffer, by a null pointer */
+    size_t bytes = 0;
+    buffer = NULL;
+    buffer_length = 0;
+    require(call(with, &bytes) == (length > 0 ? SQLLEX_NO_ROOM : SQLLEX_DONE) && bytes == 0, "a result in no buffer");
+}
+
+/* A span to be read. */
+struct span {
+    read_function *read;
+    size_t start, length;
+};
+
+static uint32_t read_span(void *with, size_t *bytes)
+{
+    const struct span *span = with;
+    return call_read(span->read, span->start, span->length, bytes);
+}
+
+static void expect_bytes(int line, read_function *read, size_t start, size_t length, const void *wanted, size_t wanted_length)
+{
+    struct span span = {read, start, length};
+    expect_result(line, read_span, &span, wanted, wanted_length);
+}
+
+static void expect_none(int line, read_function *read, size_t start, size_t length)
+{
+    static const size_t lengths[] = {0, 1, 5, 100};
+    for (size_t i = 0; i < sizeof lengths / sizeof *lengths; i++) {
+        size_t bytes = 0;
+        lend_buffer(lengths[i]);
+        uint32_t status = call_read(read, start, length, &bytes);
+        take_result(status, bytes);
+        if (status == SQLLEX_NOT_THAT_LITERAL)
+            continue;
+        fprintf(stderr, "calls: line %d: the status is %u, and not that of no such literal\n", line, (unsigned)status);
+        exit(1);
+    }
+}
+
+static void expect_integer(int line, size_t start, size_t length, uint32_t status, int64_t wanted)
+{
+    int64_t value = 0;
+    uint32_t got = call_read_integer(start, length, &value);
+    if (got == status && value == (status == SQLLEX_DONE ? wanted : 0))
+        return;
+    fprintf(stderr, "calls: line %d: the status is %u, the value %lld\n", line, (unsigned)got, (long long)value);
+    exit(1);
+}
+
+/* A literal by itself, and between other tokens. */
+static void set_between(const char *literal, size_t length)
+{
+    static char bytes[TEXT_MOST];
+    bytes[0] = '(';
+    memcpy(bytes + 1, literal, length);
+    memcpy(bytes + 1 + length, ");", 2);
+    set_text(bytes, length + 3);
+}
+
+static void expect_whole_integer(int line, const char *literal, uint32_t status, int64_t wanted)
+{
+    size_t length = strlen(literal);
+    set_text(literal, length);
+    expect_integer(line, 0, length, status, wanted);
+    set_between(literal, length);
+    expect_integer(line, 1, length, status, wanted);
+    expect_integer(line, 0, length + 1, SQLLEX_NOT_THAT_LITERAL, 0);
+    expect_integer(line, 1, length + 1, SQLLEX_NOT_THAT_LITERAL, 0);
+    expect_integer(line, 1, length - 1, SQLLEX_NOT_THAT_LITERAL, 0);
+    expect_none(line, sqllex_read_string, 1, length);
+    expect_none(line, sqllex_read_name, 1, length);
+    expect_none(line, sqllex_read_blob, 1, length);
+}
+
+#define INTEGER(literal, value) expect_whole_integer(__LINE__, literal, SQLLEX_DONE, value)
+#define OUT_OF_RANGE(literal) expect_whole_integer(__LINE__, literal, SQLLEX_OUT_OF_RANGE, 0)
+#define NO_INTEGER(literal) (TEXT(literal), expect_integer(__LINE__, 0, text_length, SQLLEX_NOT_THAT_LITERAL, 0))
+
+static void try_integers(void)
+{
+    INTEGER("0", 0);
+    INTEGER("7", 7);
+    INTEGER("1_000", 1000);
+    INTEGER("999999999999999999", 999999999999999999); /* 18 digits */
+    INTEGER("1000000000000000000", 1000000000000000000);
+    INTEGER("9223372036854775807", INT64_MAX);
+    INTEGER("9_223_372_036_854_775_807", INT64_MAX);
+    OUT_OF_RANGE("9223372036854775808");
+    OUT_OF_RANGE("9_223372036854775_808");
+    OUT_OF_RANGE("9223372036854775810");
+    OUT_OF_RANGE("9999999999999999999");
+    OUT_OF_RANGE("10000000000000000000"); /* 20 digits */
+    OUT_OF_RANGE("18446744073709551615");
+    OUT_OF_RANGE("18446744073709551616");
+    OUT_OF_RANGE("92233720368547758070");
+    INTEGER("0000000000000000000", 0);
+    INTEGER("00000000000000000000009", 9);
+    INTEGER("09223372036854775807", INT64_MAX);
+    OUT_OF_RANGE("09223372036854775808");
+    INTEGER("0x0", 0);
+    INTEGER("0x10", 16);
+    INTEGER("0Xa_B", 171);
+    INTEGER("0x7FFFFFFFFFFFFFFF", INT64_MAX); /* 16 digits */
+    INTEGER("0x8000000000000000", INT64_MIN);
+    INTEGER("0xFFFFFFFFFFFFFFFF", -1);
+    INTEGER("0xffff_ffff_ffff_fffe", -2);
+    OUT_OF_RANGE("0x10000000000000000"); /* 17 digits */
+    OUT_OF_RANGE("0x1FFFFFFFFFFFFFFFF");
+    OUT_OF_RANGE("0x1_0000_0000_0000_0000");
+    INTEGER("0x00000000000000001", 1);
+    INTEGER("0x0FFFFFFFFFFFFFFFF", -1);
+    INTEGER("0X0000000000000000000000008000000000000000", INT64_MIN);
+    NO_INTEGER("");
+    NO_INTEGER("1.5");
+    NO_INTEGER("1.");
+    NO_INTEGER("1e5");
+    NO_INTEGER("-5");
+    NO_INTEGER(" 5");
+    NO_INTEGER("5 ");
+    NO_INTEGER("a");
+    NO_INTEGER("'1'");
+    NO_INTEGER("x'31'");
+    NO_INTEGER("?1");
+    NO_INTEGER("12a");
+    NO_INTEGER("1_");
+    NO_INTEGER("0x");
+    NO_INTEGER("0x_1");
+    NO_INTEGER("{");
+    TEXT("1.5");
+    expect_integer(__LINE__, 0, 1, SQLLEX_NOT_THAT_LITERAL, 0);
+}
+
+/* What sqllex_next gives inside a token is read too; of any other span nothing is, also where it ends past the text, or its end wraps. */
+static void try_spans(void)
+{
+    static const size_t no_spans[][2] = {
+        {0, 0}, {0, 1}, {0, 3}, {1, 0}, {1, 1}, {1, 3}, {2, 0}, {2, 2}, {3, 0}, {3, 1}, {4, 0}, {4, 1}, {5, 0}, {5, 1},
+        {SIZE_MAX, 0}, {SIZE_MAX, 1}, {SIZE_MAX, 2}, {SIZE_MAX, 3}, {SIZE_MAX, SIZE_MAX}, {SIZE_MAX - 1, 3}, {SIZE_MAX - 1, 4},
+        {1, SIZE_MAX}, {1, SIZE_MAX - 1}, {2, SIZE_MAX}, {3, SIZE_MAX}, {4, SIZE_MAX}, {5, SIZE_MAX}, {0, SIZE_MAX}, {0, SIZE_MAX - 1},
+        {SIZE_MAX / 2 + 2, SIZE_MAX / 2 + 2}, {1, SIZE_MAX / 2 + 1},
+    };
+    TEXT("(12)");
+    expect_integer(__LINE__, 1, 2, SQLLEX_DONE, 12);
+    expect_integer(__LINE__, 2, 1, SQLLEX_DONE, 2);
+    for (size_t i = 0; i < sizeof no_spans / sizeof *no_spans; i++) {
+        size_t start = no_spans[i][0], length = no_spans[i][1];
+        TEXT("(12)");
+        expect_integer(__LINE__, start, length, SQLLEX_NOT_THAT_LITERAL, 0);
+        TEXT("(x'')");
+        if (start != 1 || length != 3)
+            expect_none(__LINE__, sqllex_read_blob, start, length);
+        TEXT("('')");
+        expect_none(__LINE__, sqllex_read_string, start, length);
+        TEXT("(\"\")");
+        expect_none(__LINE__, sqllex_read_name, start, length);
+    }
+    text = NULL;
+    text_length = 0;
+    for (size_t i = 0; i < sizeof no_spans / sizeof *no_spans; i++) {
+        expect_integer(__LINE__, no_spans[i][0], no_spans[i][1], SQLLEX_NOT_THAT_LITERAL, 0);
+        expect_none(__LINE__, sqllex_read_string, no_spans[i][0], no_spans[i][1]);
+    }
+}
+
+/* The bytes of a literal, by the one call that reads it. */
+static void expect_whole(int line, read_function *read, const char *literal, size_t length, const void *wanted, size_t wanted_length)
+{
+    set_text(literal, length);
+    expect_bytes(line, read, 0, length, wanted, wanted_length);
+    set_between(literal, length);
+    expect_bytes(line, read, 1, length, wanted, wanted_length);
+    expect_none(line, read, 1, length - 1);
+    expect_none(line, read, 1, length + 1);
+    expect_none(line, read, 0, length);
+    expect_none(line, read, 0, length + 1);
+    expect_integer(line, 1, length, SQLLEX_NOT_THAT_LITERAL, 0);
+    if (read != sqllex_read_string)
+        expect_none(line, sqllex_read_string, 1, length);
+    if (read != sqllex_read_name)
+        expect_none(line, sqllex_read_name, 1, length);
+    if (read != sqllex_read_blob)
+        expect_none(line, sqllex_read_blob, 1, length);
+}
+
+#define READS(call, literal, bytes) expect_whole(__LINE__, call, literal, sizeof literal - 1, bytes, sizeof bytes - 1)
+#define STRING(...) READS(sqllex_read_string, __VA_ARGS__)
+#define QUOTED(...) READS(sqllex_read_name, __VA_ARGS__)
+#define BLOB(...) READS(sqllex_read_blob, __VA_ARGS__)
+#define NONE(call, literal) (TEXT(literal), expect_none(__LINE__, call, 0, text_length))
+
+static void try_bytes(void)
+{
+    STRING("''", "");
+    STRING("'a'", "a");
+    STRING("'it''s'", "it's");
+    STRING("''''", "'");
+    STRING("''''''", "''");
+    STRING("'\"\"``'", "\"\"``");
+    STRING("'\0\377\n'", "\0\377\n");
+    QUOTED("\"\"", "");
+    QUOTED("\"a\"\"b\"", "a\"b");
+    QUOTED("`a``b\"\"''c`", "a`b\"\"''c");
+    QUOTED("\"select\"", "select");
+    BLOB("x''", "");
+    BLOB("X'00'", "\0");
+    BLOB("x'0aF9'", "\012\371");
+    BLOB("x'27fFFf'", "'\377\377");
+    NONE(sqllex_read_string, "");
+    NONE(sqllex_read_string, "'a");
+    NONE(sqllex_read_string, "'a' ");
+    NONE(sqllex_read_string, "'a''");
+    NONE(sqllex_read_string, "a");
+    TEXT("'a''b'");
+    expect_none(__LINE__, sqllex_read_string, 0, 3);
+    expect_none(__LINE__, sqllex_read_string, 1, 1);
+    expect_none(__LINE__, sqllex_read_string, 0, 7);
+    expect_bytes(__LINE__, sqllex_read_string, 3, 3, "b", 1); /* what sqllex_next gives there */
+    /* a bare word is no quoted name, whatever it begins with */
+    NONE(sqllex_read_name, "a");
+    NONE(sqllex_read_name, "a1");
+    NONE(sqllex_read_name, "_");
+    NONE(sqllex_read_name, "\302\261");
+    NONE(sqllex_read_name, "select");
+    NONE(sqllex_read_name, "\"a");
+    NONE(sqllex_read_name, "a\"b\"");
+    NONE(sqllex_read_name, "$a");
+    NONE(sqllex_read_blob, "x'1'");
+    NONE(sqllex_read_blob, "x'1g'");
+    NONE(sqllex_read_blob, "x'12");
+    NONE(sqllex_read_blob, "'12'");
+    NONE(sqllex_read_blob, "x");
+}
+
+/* A name in brackets, which one profile has alone. */
+static void try_brackets(void)
+{
+    if (profile == SQLLEX_TURSO) {
+        NONE(sqllex_read_name, "[a]");
+        NONE(sqllex_read_name, "[]");
+        return;
+    }
+    QUOTED("[]", "");
+    QUOTED("[a]", "a");
+    QUOTED("[a[[b\"\"``'']", "a[[b\"\"``''");
+    NONE(sqllex_read_name, "[a");
+    NONE(sqllex_read_name, "[a]]");
+}
+
+/* Literals as long as a text is here: what is read is counted where the buffer might be too short. */
+static void try_long_bytes(void)
+{
+    static char quotes[30000], bytes[TEXT_MOST];
+    memset(quotes, '\'', sizeof quotes);
+    set_long("'", '\'', 2 * sizeof quotes, "'");
+    expect_bytes(__LINE__, sqllex_read_string, 0, text_length, quotes, sizeof quotes);
+    memset(bytes, 'a', sizeof bytes);
+    set_long("(\"", 'a', 60000, "\")");
+    expect_bytes(__LINE__, sqllex_read_name, 1, text_length - 2, bytes, 60000);
+    memset(bytes, 0xaa, sizeof bytes);
+    set_long("x'", 'A', 60000, "'");
+    expect_bytes(__LINE__, sqllex_read_blob, 0, text_length, bytes, 30000);
+    set_long("x'", 'A', 60001, "'");
+    expect_none(__LINE__, sqllex_read_blob, 0, text_length);
+    set_long("0x", '0', 60000, "fF");
+    expect_integer(__LINE__, 0, text_length, SQLLEX_DONE, 255);
+    set_long("", '0', 60000, "9223372036854775808");
+    expect_integer(__LINE__, 0, text_length, SQLLEX_OUT_OF_RANGE, 0);
+    set_long("", '9', 60000, "");
+    expect_integer(__LINE__, 0, text_length, SQLLEX_OUT_OF_RANGE, 0);
+}
+
+/* The kinds of literals that are bytes, by the calls that read and write them. */
+enum { STRINGS, NAMES, BLOBS, KINDS_OF_BYTES };
+static const struct kind_of_bytes {
+    read_function *read;
+    write_function *write;
+} kinds_of_bytes[] = {
+    {sqllex_read_string, sqllex_write_string},
+    {sqllex_read_name, sqllex_write_name},
+    {sqllex_read_blob, sqllex_write_blob},
+};
+
+static uint32_t write_text(void *with, size_t *bytes)
+{
+    const struct kind_of_bytes *kind = with;
+    return call_write(kind->write, bytes);
+}
+
+static uint32_t write_value(void *with, size_t *bytes)
+{
+    const int64_t *value = with;
+    return call_write_integer(*value, bytes);
+}
+
+/* Bytes are written as that literal, and it is read back to them. */
+static void expect_written(int line, size_t kind, const void *bytes, size_t length, const void *literal, size_t literal_length)
+{
+    struct kind_of_bytes calls = kinds_of_bytes[kind];
+    set_text(bytes, length);
+    expect_result(line, write_text, &calls, literal, literal_length);
+    expect_whole(line, calls.read, literal, literal_length, bytes, length);
+}
+
+static void expect_written_integer(int line, int64_t value, const char *literal)
+{
+    expect_result(line, write_value, &value, literal, strlen(literal));
+    expect_whole_integer(line, literal, SQLLEX_DONE, value);
+}
+
+#define WRITES(kind, bytes, literal) expect_written(__LINE__, kind, bytes, sizeof bytes - 1, literal, sizeof literal - 1)
+#define WRITES_INTEGER(...) expect_written_integer(__LINE__, __VA_ARGS__)
+
+static void try_writes(void)
+{
+    WRITES(STRINGS, "", "''");
+    WRITES(STRINGS, "it's", "'it''s'");
+    WRITES(STRINGS, "'", "''''");
+    WRITES(STRINGS, "a\"`\0\377", "'a\"`\0\377'");
+    WRITES(NAMES, "", "\"\"");
+    WRITES(NAMES, "a\"b'c", "\"a\"\"b'c\"");
+    WRITES(NAMES, "[a]", "\"[a]\"");
+    WRITES(NAMES, "select", "\"select\"");
+    WRITES(BLOBS, "", "x''");
+    WRITES(BLOBS, "\0", "x'00'");
+    WRITES(BLOBS, "\012\371", "x'0AF9'");
+    WRITES(BLOBS, "'\200\377", "x'2780FF'");
+    WRITES_INTEGER(0, "0");
+    WRITES_INTEGER(9, "9");
+    WRITES_INTEGER(10, "10");
+    WRITES_INTEGER(99, "99");
+    WRITES_INTEGER(100, "100");
+    WRITES_INTEGER(4294967296, "4294967296");
+    WRITES_INTEGER(999999999999999999, "999999999999999999");
+    WRITES_INTEGER(1000000000000000000, "1000000000000000000");
+    WRITES_INTEGER(INT64_MAX, "9223372036854775807");
+    WRITES_INTEGER(-1, "0xFFFFFFFFFFFFFFFF");
+    WRITES_INTEGER(-171, "0xFFFFFFFFFFFFFF55");
+    WRITES_INTEGER(INT64_MIN, "0x8000000000000000");
+    /* bytes by a null pointer, where there are none */
+    text = NULL;
+    text_length = 0;
+    for (size_t kind = STRINGS; kind < KINDS_OF_BYTES; kind++) {
+        static const char *const literals[] = {"''", "\"\"", "x''"};
+        struct kind_of_bytes calls = kinds_of_bytes[kind];
+        expect_result(__LINE__, write_text, &calls, literals[kind], strlen(literals[kind]));
+    }
+}
+
+/* Reads back what it writes of bytes by rule. */
+static void expect_back(size_t kind, const uint8_t *bytes, size_t length)
+{
+    struct kind_of_bytes calls = kinds_of_bytes[kind];
+    size_t written = 0;
+    static uint8_t literal[BUFFER_MOST];
+    set_text(bytes, length);
+    lend_buffer(2 * length + 3);
+    uint32_t status = call_write(calls.write, &written);
+    take_result(status, written);
+    require(status == SQLLEX_DONE, "no room for a literal");
+    memcpy(literal, result, written);
+    set_text(literal, written);
+    expect_bytes(__LINE__, calls.read, 0, written, bytes, length);
+}
+
+static void expect_integer_back(int64_t value)
+{
+    size_t written = 0;
+    lend_buffer(19);
+    uint32_t status = call_write_integer(value, &written);
+    take_result(status, written);
+    require(status == SQLLEX_DONE, "no room for an integer");
+    set_text(result, written);
+    expect_integer(__LINE__, 0, written, SQLLEX_DONE, value);
+}
+
+static void try_back(void)
+{
+    static uint8_t bytes[300];
+    for (int round = 0; round < 600; round++) {
+        size_t length = draw(round % 4 == 0 ? sizeof bytes : 6);
+        draw_bytes(bytes, length);
+        expect_back((size_t)round % KINDS_OF_BYTES, bytes, length);
+    }
+    for (int round = 0; round < 3000; round++) {
+        uint64_t bits = ((uint64_t)draw(0xffffffff) << 32 | draw(0xffffffff)) >> draw(64);
+        expect_integer_back(signed_number(bits));
+        expect_integer_back(-1 - signed_number(bits >> 1));
+    }
+    for (int64_t power = 10; power < INT64_MAX / 10; power *= 10) {
+        expect_integer_back(power - 1);
+        expect_integer_back(power);
+        expect_integer_back(power + 1);
+    }
+}
+
+/* Under no profile nothing is read, not even the text, and nothing written. */
+static void expect_unread(uint32_t number, size_t start, size_t length)
+{
+    int64_t *value = lend(value_room, sizeof *value);
+    size_t *count = lend(count_room, sizeof *count);
+    require(sqllex_read_integer(text, text_length, start, length, number, value) == SQLLEX_UNKNOWN_PROFILE, "an integer under no profile");
+    look_at_lent(value, sizeof *value, "a value was written under no profile");
+    for (size_t kind = STRINGS; kind < KINDS_OF_BYTES; kind++)
+        for (size_t room = 0; room < 20; room += 9) {
+            lend_buffer(room);
+            require(kinds_of_bytes[kind].read(text, text_length, start, length, number, buffer, room, count) == SQLLEX_UNKNOWN_PROFILE,
+                    "bytes under no profile");
+            look_at_lent(buffer, room, "a byte of a buffer was written under no profile");
+        }
+    look_at_lent(count, sizeof *count, "a count was written under no profile");
+}
+
+static void try_unread(void)
+{
+    static const uint32_t numbers[] = {2, 3, 98, 99, 0x80000000, 0xffffffff};
+    TEXT("'a' x'00' \"b\" 12");
+    mprotect(text_room.bytes, text_room.size, PROT_NONE);
+    for (size_t i = 0; i < sizeof numbers / sizeof *numbers; i++) {
+        expect_unread(numbers[i], 0, 3);
+        expect_unread(numbers[i], 4, 5);
+        expect_unread(numbers[i], 10, 3);
+        expect_unread(numbers[i], 14, 2);
+        expect_unread(numbers[i], SIZE_MAX, SIZE_MAX);
+    }
+}
+
+/* The token of the last call, read from the row's front and from the bytes sent: by each call the same. */
+static void expect_same(const sqllex_answer *token)
+{
+    static uint8_t row_bytes[ROW_LENGTH];
+    int64_t in_row = 0, in_text = 0;
+    set_text(sent, sent_length);
+    uint32_t status = call_read_integer(token->start, token->length, &in_text);
+    set_text(row, token->length);
+    require(call_read_integer(0, token->length, &in_row) == status && in_row == in_text, "another value in the row");
+    for (size_t kind = STRINGS; kind < KINDS_OF_BYTES; kind++) {
+        size_t bytes = 0, again = 0;
+        set_text(row, token->length);
+        lend_buffer(sizeof row_bytes);
+        status = call_read(kinds_of_bytes[kind].read, 0, token->length, &bytes);
+        take_result(status, bytes);
+        memcpy(row_bytes, result, bytes);
+        set_text(sent, sent_length);
+        lend_buffer(sizeof row_bytes);
+        require(call_read(kinds_of_bytes[kind].read, token->start, token->length, &again) == status, "another status in the row");
+        take_result(status, again);
+        require(bytes == again && memcmp(row_bytes, result, bytes) == 0, "other bytes in the row");
+    }
+}
+
+/* The tokens of a text in parts of one length, each read; blanks, words and operators are no literals, wherever they are read. */
+static void read_parts(const uint8_t *bytes, size_t length, size_t part)
+{
+    size_t at = 0;
+    uint32_t status;
+    follow_stream();
+    do {
+        bool finish = at == length;
+        set_text(bytes + at, length - at < part ? length - at : part);
+        status = call_sent(finish, &gave);
+        at += gave.taken;
+        if (status == SQLLEX_TOKEN)
+            expect_same(&gave.answer);
+    } while (status == SQLLEX_TOKEN || status == SQLLEX_MORE);
+    require(status == SQLLEX_END, "a text of literals is refused");
+}
+
+static void try_rows(void)
+{
+    static const char settings[] = "INSERT INTO s VALUES('it''s',0x1_F,x'0AFF',\"a\"\"b\",`c`,-9_9,1.5,$a::b(c),99999999999999999999);";
+    for (size_t part = 1; part < sizeof settings; part++)
+        read_parts((const uint8_t *)settings, sizeof settings - 1, part);
+    /* byte by byte, a number that is settled by what follows it */
+    begin_stream();
+    TEXT("1");
+    OFFER(SQLLEX_MORE, 0, 0, 0, 0, 1);
+    TEXT("_");
+    OFFER(SQLLEX_MORE, 0, 0, 0, 0, 1);
+    TEXT("2");
+    OFFER(SQLLEX_MORE, 0, 0, 0, 0, 1);
+    TEXT(")");
+    OFFER(SQLLEX_TOKEN, SQLLEX_TK_INTEGER, 0, 3, 3, 1);
+    int64_t value = 0;
+    require(sqllex_read_integer(row, gave.answer.length, 0, gave.answer.length, profile, &value) == SQLLEX_DONE && value == 12,
+            "another number than came byte by byte");
+    require(sqllex_read_integer(row, stream->held, 0, gave.answer.length, profile, &value) == SQLLEX_DONE && value == 12,
+            "another number with what is held behind it");
+}
+
+static void try_literals(void)
+{
+    try_integers();
+    try_spans();
+    try_bytes();
+    try_brackets();
+    try_long_bytes();
+    try_writes();
+    try_back();
+    try_rows();
+}
+
 static void try_streams(void)
 {
     try_stream();
@@ -1317,6 +2001,7 @@ static void try_both(void)
     try_long();
     try_null();
     try_streams();
+    try_literals();
 }
 
 static void try_edges(void)
@@ -1329,10 +2014,12 @@ static void try_edges(void)
     try_unknown_texts();
     try_no_profile();
     try_no_stream();
+    try_unread();
     try_words();
 }
 
-static const char usage[] = "calls front|back next|sums|list N|cut|stream [turso|sqlite], or calls front|back word|replay|edges";
+static const char usage[] =
+    "calls front|back next|sums|list N|cut|stream|literal [turso|sqlite], or calls front|back word|write|replay|edges";
 
 /* The second argument, and which behind it: a list's length N, a profile. */
 struct mode {
@@ -1349,6 +2036,8 @@ static const struct mode *mode_named(const char *name)
         {"list", true, true, print_one_list},
         {"cut", false, true, print_cut},
         {"stream", false, true, print_stream},
+        {"literal", false, true, print_literal},
+        {"write", false, false, print_write},
         {"word", false, false, print_word},
         {"replay", false, false, print_replay},
         {"edges", false, false, NULL}, /* reads no records */
@@ -1395,6 +2084,9 @@ int main(int argc, char **argv)
     stream_room = make_room(sizeof(sqllex_stream));
     row_room = make_room(ROW_LENGTH);
     given_room = make_room(sizeof(sqllex_given));
+    value_room = make_room(sizeof(int64_t));
+    count_room = make_room(sizeof(size_t));
+    buffer_room = make_room(BUFFER_MOST + BESIDE);
     if (mode->print != NULL)
         each_record(mode->print);
     else

@@ -12,15 +12,11 @@ use Rattle.lists.specs.Lists.{recordsIn, Lists}
 use Rattle.lists.specs.Cuts.{Cuts}
 use Rattle.codes.specs.declared.answers.Numbers.{Numbers}
 use Rattle.codes.specs.Told.{ofNext, ofList, ofCut, written}
-use Rattle.codes.specs.Profiles.{profileOf, Under}
+use Rattle.codes.specs.Profiles.{profileOf, unknownProfile, Under}
 
 -- the status and the six numbers written
 abbrev pub Gave : Numbers → ℕ → List ℕ → Type 0
 Gave r status six = (status ≡ r .status) × (six ≡ written r)
-
--- the status where the number is no profile's
-abbrev pub unknownProfile : ℕ
-unknownProfile = 99
 
 -- Next
 pub record NextNumbers (s : Source) (at status : ℕ) (six : List ℕ) : Type 0 where

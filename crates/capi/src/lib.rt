@@ -16,7 +16,11 @@ use words::lookup::is_quotable_keyword;
 use words::lookup::keyword_or_id_token;
 ghost use mathlib.Core.Path.{_≡_};
 ghost use Rattle.words.specs.Word.{kindOf, isQuotable};
+ghost use Rattle.integers.specs.Calls.{WritesInteger};
+ghost use Rattle.strings.specs.Calls.{ReadsString, ReadsName, WritesString, WritesName};
+ghost use Rattle.blobs.specs.Calls.{ReadsBlob, WritesBlob};
 ghost use Rattle.packets.specs.Calls.{BeginCall, OfferCall, FinishCall};
+ghost use Rattle.values.specs.Calls.{ReadIntegerCall, ReadBytesCall, WriteCall};
 ghost use Rattle.capi.specs.Calls.{NextCall, ListCall, CountCall, CutCall};
 
 #[no_mangle]
@@ -123,4 +127,89 @@ pub extern "C" fn sqllex_stream_finish(
     ensures { λ r. ⌜ FinishCall (now (stream .entry)) (now (row .entry)) (now (given .entry)) r (now (stream .exit)) (now (row .exit)) (now (given .exit)) ⌝ }
 {
     finish_numbers(stream, row, given)
+}
+
+// The value of a literal that is a span of a text.
+#[no_mangle]
+pub extern "C" fn sqllex_read_integer(
+    text: &[u8],
+    start: usize,
+    length: usize,
+    profile: u32,
+    value: &mut i64,
+) -> u32
+    ensures { λ r. ⌜ ReadIntegerCall (now (text .entry)) start length profile (now (value .entry)) r (now (value .exit)) ⌝ }
+{
+    values::reading::integer(text, start, length, profile, value)
+}
+
+#[no_mangle]
+pub extern "C" fn sqllex_read_string(
+    text: &[u8],
+    start: usize,
+    length: usize,
+    profile: u32,
+    buffer: &mut [u8],
+    bytes: &mut usize,
+) -> u32
+    ensures { λ r. ⌜ ReadBytesCall ReadsString (now (text .entry)) start length profile (now (buffer .entry)) (now (bytes .entry)) r (now (buffer .exit)) (now (bytes .exit)) ⌝ }
+{
+    values::reading::string(text, start, length, profile, buffer, bytes)
+}
+
+#[no_mangle]
+pub extern "C" fn sqllex_read_name(
+    text: &[u8],
+    start: usize,
+    length: usize,
+    profile: u32,
+    buffer: &mut [u8],
+    bytes: &mut usize,
+) -> u32
+    ensures { λ r. ⌜ ReadBytesCall ReadsName (now (text .entry)) start length profile (now (buffer .entry)) (now (bytes .entry)) r (now (buffer .exit)) (now (bytes .exit)) ⌝ }
+{
+    values::reading::name(text, start, length, profile, buffer, bytes)
+}
+
+#[no_mangle]
+pub extern "C" fn sqllex_read_blob(
+    text: &[u8],
+    start: usize,
+    length: usize,
+    profile: u32,
+    buffer: &mut [u8],
+    bytes: &mut usize,
+) -> u32
+    ensures { λ r. ⌜ ReadBytesCall ReadsBlob (now (text .entry)) start length profile (now (buffer .entry)) (now (bytes .entry)) r (now (buffer .exit)) (now (bytes .exit)) ⌝ }
+{
+    values::reading::blob(text, start, length, profile, buffer, bytes)
+}
+
+// The literal of a value.
+#[no_mangle]
+pub extern "C" fn sqllex_write_integer(value: i64, buffer: &mut [u8], bytes: &mut usize) -> u32
+    ensures { λ r. ⌜ WriteCall (WritesInteger value) (now (buffer .entry)) (now (bytes .entry)) r (now (buffer .exit)) (now (bytes .exit)) ⌝ }
+{
+    values::writing::integer(value, buffer, bytes)
+}
+
+#[no_mangle]
+pub extern "C" fn sqllex_write_string(value: &[u8], buffer: &mut [u8], bytes: &mut usize) -> u32
+    ensures { λ r. ⌜ WriteCall (WritesString (now (value .entry))) (now (buffer .entry)) (now (bytes .entry)) r (now (buffer .exit)) (now (bytes .exit)) ⌝ }
+{
+    values::writing::string(value, buffer, bytes)
+}
+
+#[no_mangle]
+pub extern "C" fn sqllex_write_name(value: &[u8], buffer: &mut [u8], bytes: &mut usize) -> u32
+    ensures { λ r. ⌜ WriteCall (WritesName (now (value .entry))) (now (buffer .entry)) (now (bytes .entry)) r (now (buffer .exit)) (now (bytes .exit)) ⌝ }
+{
+    values::writing::name(value, buffer, bytes)
+}
+
+#[no_mangle]
+pub extern "C" fn sqllex_write_blob(value: &[u8], buffer: &mut [u8], bytes: &mut usize) -> u32
+    ensures { λ r. ⌜ WriteCall (WritesBlob (now (value .entry))) (now (buffer .entry)) (now (bytes .entry)) r (now (buffer .exit)) (now (bytes .exit)) ⌝ }
+{
+    values::writing::blob(value, buffer, bytes)
 }

@@ -15,6 +15,10 @@ abbrev pub profileNumber : Profile → ℕ
 profileNumber Turso = 0
 profileNumber Sqlite = 1
 
+-- the status of a call where the number is none's
+abbrev pub unknownProfile : ℕ
+unknownProfile = 99
+
 -- what holds of a call under the profile that is chosen, or where the number is none's
 abbrev pub Under : Chosen → (Profile → Type 0) → Type 0 → Type 0
 Under (Known p) called refused = called p

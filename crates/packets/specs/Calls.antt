@@ -5,16 +5,13 @@ use mathlib.Core.Path.{_≡_}
 use mathlib.Core.List.{List}
 use mathlib.Core.Logic.{_⊎_}
 use Rattle.intake.specs.declared.state.Stream.{Stream}
-use Rattle.codes.specs.Profiles.{profileOf, Under}
+use Rattle.codes.specs.Profiles.{profileOf, unknownProfile, Under}
 use Rattle.stream.specs.declared.stream.Given.{Given}
 use Rattle.stream.specs.Calls.{begun, Offered, Finished}
 use Rattle.packets.specs.States.{numbersOf, NoStreams}
 use Rattle.packets.specs.Numbers.{ofStream, seven}
 
--- the statuses where the number is no profile's, where the numbers are no stream's, and where more is wanted
-abbrev pub unknownProfile : ℕ
-unknownProfile = 99
-
+-- the statuses where the numbers are no stream's, and where more is wanted
 abbrev pub unknownStream : ℕ
 unknownStream = 98
 
