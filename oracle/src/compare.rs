@@ -8,9 +8,11 @@ mod corpus;
 mod cuts;
 mod damage;
 mod families;
+mod integers;
 mod lexemes;
 mod limits;
 mod lists;
+mod literals;
 mod makers;
 mod near;
 mod random;
@@ -21,6 +23,7 @@ mod tokenizer;
 mod triggers;
 mod walks;
 mod words;
+mod written;
 
 use crate::modes::Mode;
 use crate::records;
@@ -47,27 +50,50 @@ const SHOWN: usize = 4_000;
 pub fn compare(out: &mut impl Write, args: &[String]) -> io::Result<bool> {
     let (wanted, program) = Wanted::read(args)?;
     let families = shares::all(wanted.plan());
-    let texts = wanted.ask(out, &families, Other::Program(program))?;
-    let Some([turso, sqlite]) = texts else { return Ok(false) };
-    count(out, "total", turso)?;
-    count(out, "sqlite: total", sqlite)?;
+    let Some(texts) = wanted.ask(out, &families, Other::Program(program))? else { return Ok(false) };
+    count(out, "total", texts.turso)?;
+    count(out, "sqlite: total", texts.sqlite)?;
+    count(out, "write: total", texts.written)?;
     Ok(true)
 }
 
-/// COUNT SEED FOLDER: the same texts, but for single words and scripts, all under `turso`. True if the second statement answers as the
-/// published lexer does.
+/// COUNT SEED FOLDER: the same texts, but for single words, scripts and literals, all under `turso`. True if the second statement answers as
+/// the published lexer does.
 pub fn second(out: &mut impl Write, args: &[String]) -> io::Result<bool> {
     let (wanted, _) = Wanted::read(args)?;
     let families = shares::all(wanted.plan()).into_iter().map(|family| family.under(Profile::Turso));
-    let families: Vec<_> = families.filter(|family| !matches!((family.mode)(0), Mode::Word | Mode::Stream)).collect();
-    let Some([texts, _]) = wanted.ask(out, &families, Other::Second)? else { return Ok(false) };
-    count(out, "total", texts)?;
+    let asked = |family: &Family| matches!((family.mode)(0), Mode::Next | Mode::Sums | Mode::List(_) | Mode::Cut);
+    let families: Vec<_> = families.filter(asked).collect();
+    let Some(texts) = wanted.ask(out, &families, Other::Second)? else { return Ok(false) };
+    count(out, "total", texts.turso)?;
     Ok(true)
 }
 
 fn count(out: &mut impl Write, title: &str, texts: u64) -> io::Result<()> {
     writeln!(out, "{title:<40} {texts:>10} texts, no difference")?;
     out.flush()
+}
+
+/// How many texts were asked.
+#[derive(Default)]
+struct Asks {
+    /// Held to the published lexer.
+    turso: u64,
+    /// Held to the second statement.
+    sqlite: u64,
+    /// To be written as literals, in which no lexer plays a part.
+    written: u64,
+}
+
+impl Asks {
+    fn add(&mut self, family: &Family) {
+        let texts = match ((family.mode)(0), family.profile) {
+            (Mode::Write, _) => &mut self.written,
+            (_, Profile::Turso) => &mut self.turso,
+            (_, Profile::Sqlite) => &mut self.sqlite,
+        };
+        *texts += family.count;
+    }
 }
 
 /// What the arguments ask for.
@@ -92,9 +118,9 @@ impl Wanted {
         Plan { count: self.count, seed: self.seed, corpus: &self.corpus, profile: Profile::Turso }
     }
 
-    /// Says how many texts each family has, and gives their number under each profile; none after a difference, which is told.
-    fn ask(&self, out: &mut impl Write, families: &[Family], other: Other) -> io::Result<Option<[u64; 2]>> {
-        let (mut texts, seed) = ([0, 0], self.seed);
+    /// Says how many texts each family has, and gives their number in all; none after a difference, which is told.
+    fn ask(&self, out: &mut impl Write, families: &[Family], other: Other) -> io::Result<Option<Asks>> {
+        let (mut texts, seed) = (Asks::default(), self.seed);
         for (place, family) in families.iter().enumerate() {
             let asked = Asked { family, place: place as u64, seed, other };
             if let Some((index, told)) = asked.all()? {
@@ -102,7 +128,7 @@ impl Wanted {
                 return Ok(None);
             }
             count(out, &family.title(), family.count)?;
-            texts[usize::from(family.profile == Profile::Sqlite)] += family.count;
+            texts.add(family);
         }
         Ok(Some(texts))
     }
@@ -121,7 +147,7 @@ impl Other<'_> {
     fn answers(self, mode: Mode, profile: Profile, records: &[u8]) -> io::Result<(Vec<u8>, ExitStatus)> {
         let Other::Program(program) = self else {
             let (mut answers, second) = (Vec::new(), Source::Second(Profile::Turso));
-            records::answer(records, &mut answers, |out, offset, text| mode.print(second, out, offset, text))?;
+            mode.answer(second, records, &mut answers)?;
             return Ok((answers, ExitStatus::default()));
         };
         ask(program, &mode.words(profile), records)
@@ -209,7 +235,8 @@ impl Asked<'_> {
             String::from_utf8_lossy(shown).trim_end_matches('\n').to_string()
         });
         let profile = self.family.profile;
-        let (mode, source) = (mode.words(profile).join(" "), Source::of(profile).name());
+        let source = if let Mode::Write = mode { "the oracle" } else { Source::of(profile).name() };
+        let mode = mode.words(profile).join(" ");
         format!(
             "mode {mode}; the answers part at byte {place}\noffset, length and text: {hex}\n\
              -- from {source}:\n{expected}\n-- {}:\n{answer}",

@@ -6,10 +6,12 @@ mod answers;
 mod compare;
 mod kinds;
 mod list;
+mod literals;
 mod modes;
 mod records;
 mod script;
 mod second;
+mod spans;
 mod stream;
 mod texts;
 mod walk;
@@ -49,10 +51,8 @@ fn main() -> io::Result<ExitCode> {
     let words: Vec<_> = std::env::args().skip(1).collect();
     let input = || io::stdin().lock();
     let well = match (words.first().map_or("", String::as_str), Mode::read(&words)) {
-        (_, Some((mode, profile))) => {
-            records::answer(input(), &mut out, |out, offset, text| mode.print(Source::of(profile), out, offset, text))?
-        }
-        ("replay", _) => records::answer(input(), &mut out, modes::print_replay)?,
+        (_, Some((mode, profile))) => mode.answer(Source::of(profile), input(), &mut out)?,
+        ("replay", _) => records::answer(input(), &mut out, records::all, modes::print_replay)?,
         ("answers", _) => answers::print(&mut out).map(|()| true)?,
         ("ahead", _) => ahead::ahead(&mut out)?,
         ("compare", _) => compare::compare(&mut out, &words[1..])?,

@@ -1,19 +1,23 @@
 //! What is asked of each record, and how the answers are printed; an empty line ends those of a record.
 
+pub mod buffers;
+
 use crate::lexer::{is_quotable_keyword, word_kind};
 use crate::list::{self, Statement};
+use crate::records;
 use crate::script::{self, Call};
 use crate::second::Profile;
+use crate::spans;
 use crate::stream::{Answer, Stream};
 use crate::token::TokenType::{self, TK_FLOAT, TK_INTEGER};
 use crate::walk::{walk, Source, Stop};
 use std::io::{self, Write};
 
 pub const USAGE: &str = "\
-modes: next [PROFILE], sums [PROFILE], list N [PROFILE] (N 0 to 196605), cut [PROFILE], stream [PROFILE], word, replay
-(records in, answers out); answers; ahead; compare COUNT SEED FOLDER PROGRAM [ARG..]; second COUNT SEED FOLDER;
-tokenizer COUNT SEED FOLDER PROGRAM [ARG..]; tokens PROGRAM [ARG..] (records in); complete COUNT SEED - PROGRAM [ARG..].
-PROFILE is turso, also where none is named, or sqlite; FOLDER is - for none";
+modes: next [PROFILE], sums [PROFILE], list N [PROFILE] (N 0 to 196605), cut [PROFILE], stream [PROFILE],
+literal [PROFILE], word, write, replay (records in, answers out); answers; ahead; compare COUNT SEED FOLDER PROGRAM [ARG..];
+second COUNT SEED FOLDER; tokenizer COUNT SEED FOLDER PROGRAM [ARG..]; tokens PROGRAM [ARG..] (records in);
+complete COUNT SEED - PROGRAM [ARG..]. PROFILE is turso, also where none is named, or sqlite; FOLDER is - for none";
 
 #[derive(Clone, Copy)]
 pub enum Mode {
@@ -25,15 +29,21 @@ pub enum Mode {
     Cut,
     /// The text is a script of a stream's calls.
     Stream,
+    /// The text is behind a span's length and a buffer's.
+    Literal,
     Word,
+    /// The offset is a buffer's length.
+    Write,
 }
 
 impl Mode {
     /// From the words that name it and the profile, as a program's arguments.
     pub fn read(words: &[String]) -> Option<(Self, Profile)> {
         let mut words: Vec<_> = words.iter().map(String::as_str).collect();
-        if words == ["word"] {
-            return Some((Mode::Word, Profile::Turso));
+        match words[..] {
+            ["word"] => return Some((Mode::Word, Profile::Turso)),
+            ["write"] => return Some((Mode::Write, Profile::Turso)),
+            _ => {}
         }
         let profile = words.last().and_then(|word| Profile::read(word));
         if profile.is_some() {
@@ -45,6 +55,7 @@ impl Mode {
             ["list", n] => n.parse().ok().filter(|&n| n <= list::MOST).map(Mode::List)?,
             ["cut"] => Mode::Cut,
             ["stream"] => Mode::Stream,
+            ["literal"] => Mode::Literal,
             _ => return None,
         };
         Some((mode, profile.unwrap_or(Profile::Turso)))
@@ -58,7 +69,9 @@ impl Mode {
             Mode::List(n) => vec!["list".to_string(), n.to_string()],
             Mode::Cut => vec!["cut".to_string()],
             Mode::Stream => vec!["stream".to_string()],
+            Mode::Literal => vec!["literal".to_string()],
             Mode::Word => vec!["word".to_string()],
+            Mode::Write => vec!["write".to_string()],
         };
         if profile == Profile::Sqlite {
             words.push("sqlite".to_string());
@@ -66,6 +79,22 @@ impl Mode {
         words
     }
 
+    /// Whether it can be asked of this record.
+    fn takes(self, offset: usize, text: &[u8]) -> bool {
+        match self {
+            Mode::Literal => spans::read(offset, text).is_some(),
+            Mode::Write => offset <= buffers::LONGEST_WRITTEN,
+            _ => true,
+        }
+    }
+
+    /// Answers each record of the input; false after a bad one.
+    pub fn answer(self, source: Source, input: impl io::Read, out: &mut impl Write) -> io::Result<bool> {
+        let takes = |offset, text: &[u8]| self.takes(offset, text);
+        records::answer(input, out, takes, |out, offset, text| self.print(source, out, offset, text))
+    }
+
+    /// Answers a record that it takes.
     pub fn print(self, source: Source, out: &mut impl Write, offset: usize, text: &[u8]) -> io::Result<()> {
         match self {
             Mode::Next => print_walk(source, out, offset, text, |_, _| String::new()),
@@ -73,7 +102,9 @@ impl Mode {
             Mode::List(n) => print_list(source, out, n, offset, text),
             Mode::Cut => print_cut(source, out, offset, text),
             Mode::Stream => print_stream(source, out, text),
+            Mode::Literal => buffers::print_literal(source, out, offset, text),
             Mode::Word => print_word(out, text),
+            Mode::Write => buffers::print_write(out, offset, text),
         }
     }
 }

@@ -44,23 +44,29 @@ impl<R: io::Read> Records<R> {
     }
 }
 
-/// Answers each record of the input; false after a record that is too long or cut off.
+/// Answers each record of the input; false after one that is too long or cut off, or that is not taken.
 pub fn answer<R: io::Read, W: Write>(
     input: R,
     out: &mut W,
+    takes: impl Fn(usize, &[u8]) -> bool,
     mut print: impl FnMut(&mut W, usize, &[u8]) -> io::Result<()>,
 ) -> io::Result<bool> {
     let mut records = Records::new(input);
     loop {
         match records.read()? {
-            Read::Record(offset, text) => print(out, offset, text)?,
+            Read::Record(offset, text) if takes(offset, text) => print(out, offset, text)?,
             Read::Over => return Ok(true),
-            Read::Bad => {
+            Read::Record(..) | Read::Bad => {
                 writeln!(out, "BADRECORD")?;
                 return Ok(false);
             }
         }
     }
+}
+
+/// Takes every record.
+pub fn all(_: usize, _: &[u8]) -> bool {
+    true
 }
 
 /// Puts a record behind others.

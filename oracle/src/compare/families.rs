@@ -75,28 +75,45 @@ impl<'a> Family<'a> {
     /// Every text over the alphabet, shortest first, as far as `most` of them reach; as many longer ones where the seed is not
     /// the first. With each text every offset up to one past the end of the longest.
     pub fn every(name: &str, mode: fn(u64) -> Mode, alphabet: &'a [u8], most: u64, seed: u64, offsets: bool) -> Self {
-        let (length, texts, of_each) = reach(alphabet.len() as u64, most, offsets);
+        let of_each = move |length| if offsets { length + 2 } else { 1 };
+        Family::each(name, mode, alphabet, most, seed, of_each, |turn, _, _, _| turn as usize)
+    }
+
+    /// The same with as many turns of each text as `of_each` says of the longest's length. The text is made a record's, and the offset
+    /// given, by `ask`, from the turn and that length.
+    pub fn each(
+        name: &str,
+        mode: fn(u64) -> Mode,
+        alphabet: &'a [u8],
+        most: u64,
+        seed: u64,
+        of_each: impl Fn(u64) -> u64 + Sync + 'a,
+        ask: impl Fn(u64, u64, &mut Random, &mut Vec<u8>) -> usize + Sync + 'a,
+    ) -> Self {
+        let (length, texts) = reach(alphabet.len() as u64, most, &of_each);
+        let turns = of_each(length);
         if seed == FIRST_SEED {
-            return Family::new(format!("{name}, all to {length}"), mode, texts * of_each, move |index, _, text| {
-                alphabets::text(alphabet, index / of_each, text);
-                (index % of_each) as usize
+            return Family::new(format!("{name}, all to {length}"), mode, texts * turns, move |index, r, text| {
+                alphabets::text(alphabet, index / turns, text);
+                ask(index % turns, length, r, text)
             });
         }
-        Family::new(format!("{name}, over {length}"), mode, texts * of_each, move |_, r, text| {
+        Family::new(format!("{name}, over {length}"), mode, texts * turns, move |_, r, text| {
             (0..=length as usize + r.below(4)).for_each(|_| text.push(r.byte_of(alphabet)));
-            r.below(if offsets { text.len() + 2 } else { 1 })
+            let length = text.len() as u64;
+            let turn = r.below(of_each(length) as usize) as u64;
+            ask(turn, length, r, text)
         })
     }
 }
 
-/// The greatest length, how many texts there are up to it, and how many offsets of each.
-fn reach(k: u64, most: u64, offsets: bool) -> (u32, u64, u64) {
-    let of_each = |length: u32| if offsets { u64::from(length) + 2 } else { 1 };
+/// The greatest length, and how many texts there are up to it.
+fn reach(k: u64, most: u64, of_each: impl Fn(u64) -> u64) -> (u64, u64) {
     let (mut length, mut texts, mut next) = (0, 1, k);
     while (texts + next) * of_each(length + 1) <= most {
         texts += next;
         next *= k;
         length += 1;
     }
-    (length, texts, of_each(length))
+    (length, texts)
 }

@@ -117,7 +117,7 @@ pub fn quoted(r: &mut Random, text: &mut Text) {
     }
 }
 
-fn blob(r: &mut Random, text: &mut Text) {
+pub fn blob(r: &mut Random, text: &mut Text) {
     text.extend(r.pick::<[u8]>(&[b"x'", b"X'"]));
     for _ in 0..r.size(6) {
         text.push(r.byte_of(HEX));

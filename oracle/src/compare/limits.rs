@@ -5,7 +5,7 @@ use super::streams::{family, in_parts_of};
 use crate::script::{push, Call};
 
 /// What begins a lexeme, goes on with it as far as wanted, and ends it.
-type Kind = (&'static [u8], &'static [u8], &'static [u8]);
+pub type Kind = (&'static [u8], &'static [u8], &'static [u8]);
 
 const KINDS: &[Kind] = &[
     // Blanks, comments, words and what is like them.
@@ -115,7 +115,7 @@ pub fn limits<'a>(most: u64) -> Family<'a> {
 }
 
 /// A lexeme of this kind that is so long.
-fn write((front, middle, back): Kind, length: usize, text: &mut Vec<u8>) {
+pub fn write((front, middle, back): Kind, length: usize, text: &mut Vec<u8>) {
     text.extend(front);
     text.extend(middle.iter().cycle().take(length - front.len() - back.len()));
     text.extend(back);

@@ -29,6 +29,22 @@ pub fn offset(r: &mut Random, length: usize) -> usize {
     }
 }
 
+/// A buffer so long, a byte shorter or longer, of no byte, or of any other length.
+pub fn room(r: &mut Random, length: usize) -> usize {
+    match r.below(8) {
+        0 => 0,
+        1 | 2 => length.saturating_sub(1),
+        3 | 4 => length,
+        5 | 6 => length + 1,
+        _ => r.size(40),
+    }
+}
+
+/// Bytes that are to be between quotes: few, and many of them quotes.
+pub fn value(r: &mut Random) -> Vec<u8> {
+    (0..r.size(15)).map(|_| if r.once_in(2) { r.byte_of(b"''\"\"`]") } else { r.byte() }).collect()
+}
+
 /// A run that goes on for up to as many bytes as a record holds, between other lexemes.
 pub fn long(r: &mut Random, text: &mut Vec<u8>) {
     several_lexemes(r, text);

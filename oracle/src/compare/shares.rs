@@ -1,7 +1,7 @@
 //! How the texts are divided among the modes and families.
 
 use super::families::{Family, Plan};
-use super::{cuts, lists, near, streams, walks, words};
+use super::{cuts, lists, literals, near, streams, walks, words, written};
 use crate::second::Profile;
 
 /// About `count` texts under `turso`. Half, and runs of digits besides, are for Next, on which the other calls stand; List and the cut
@@ -10,6 +10,7 @@ use crate::second::Profile;
 /// Besides, about a sixth as many under `sqlite`: a tenth by the same rules, the rest rich in what it reads otherwise.
 /// And scripts of streams, about a seventh of `count`, a twentieth under `sqlite`: most of them short, since each is tried with all that may
 /// follow.
+/// And literals: about a twelfth of `count` to be read, under `sqlite` half as many, and a twenty-eighth to be written.
 pub fn all(plan: Plan) -> Vec<Family> {
     let sqlite = Plan { count: plan.count / 10, profile: Profile::Sqlite, ..plan };
     let mut families: Vec<_> = made(plan).collect();
@@ -18,11 +19,14 @@ pub fn all(plan: Plan) -> Vec<Family> {
     families.extend(near::families(sqlite).into_iter().map(|family| family.under(Profile::Sqlite)));
     families.extend(streams::families(plan));
     families.extend(streams::families(Plan { count: plan.count / 6, ..sqlite }));
+    families.extend(literals::families(plan));
+    families.extend(literals::families(Plan { count: plan.count / 2, ..sqlite }));
+    families.extend(written::families(plan));
     // A text depends on its family's place in this list. Real SQL is last, so that the others are the same without it.
     if plan.corpus.len() > 0 {
         families.extend(real(plan));
         families.extend(real(sqlite));
-        families.extend([streams::real(plan), streams::real(sqlite)]);
+        families.extend([streams::real(plan), streams::real(sqlite), literals::real(plan), literals::real(sqlite)]);
     }
     families
 }

@@ -128,7 +128,7 @@ fn given(program: &[String], codes: &Codes, texts: &[Vec<u8>]) -> io::Result<Vec
 /// `refused` and the span.
 pub fn tokens(input: impl Read, out: &mut impl Write, program: &[String]) -> io::Result<bool> {
     let codes = Codes::learn(program)?;
-    records::answer(input, out, |out, _, text| {
+    records::answer(input, out, records::all, |out, _, text| {
         let answers = &given(program, &codes, &[text.to_vec()])?[0];
         let (mut place, mut tokens) = (0, 0);
         while place < text.len() {
