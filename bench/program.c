@@ -1,6 +1,6 @@
 /* The program that is measured, on x86-64 Linux and on the emulated Cortex-M4 alike. It is compiled once for each lexer, with -DLIST=..
  *   program FILE REPEATS   List of the text, so many times: instructions of one pass = (those of 3 passes - those of 1) / 2; with -DCUTS
- *                          the cut of all its statements
+ *                          the cut of all its statements; with -DREADS, or -DWRITES, its literals read, or read and written again
  *   program FILE dump      the records, a line each
  *   program FILE stack     bytes of stack that calls really used; with -DALL_CALLS also those of next and cut
  * A length is 64 bits wide on both machines, since the library has it so. */
@@ -25,6 +25,56 @@ static uint64_t under_profile(const uint8_t *t, uint64_t n, uint32_t *l, uint64_
     uint64_t count = 0;
     for (uint64_t at = 0; sqllex_cut(t, n, at, PROFILE, answer) == CUT; count++)
         at = answer[3];
+    return count;
+}
+#elif defined READS || defined WRITES
+/* In List's place the literals of its records. The list is made once, before the first of several passes, and so is no part of one. */
+uint64_t sqllex_list(const uint8_t *text, uint64_t length, uint32_t profile, uint32_t *list, uint64_t numbers);
+uint32_t sqllex_read_integer(const uint8_t *t, uint64_t n, uint64_t start, uint64_t length, uint32_t profile, int64_t *value);
+typedef uint32_t read_function(const uint8_t *t, uint64_t n, uint64_t start, uint64_t length, uint32_t p, uint8_t *b, uint64_t m, uint64_t *k);
+read_function sqllex_read_string, sqllex_read_blob;
+uint32_t sqllex_write_integer(int64_t value, uint8_t *b, uint64_t m, uint64_t *k);
+typedef uint32_t write_function(const uint8_t *value, uint64_t length, uint8_t *b, uint64_t m, uint64_t *k);
+write_function sqllex_write_string, sqllex_write_blob;
+enum { STRING = 29, INTEGER = 31, BLOB = 33, DONE = 104 };
+static uint8_t buffer[TEXT], again[TEXT];
+static int64_t value;
+static uint64_t bytes;
+static uint32_t read(const uint8_t *t, uint64_t n, uint64_t start, uint64_t size, uint32_t kind)
+{
+    if (kind == INTEGER)
+        return sqllex_read_integer(t, n, start, size, PROFILE, &value);
+    return (kind == STRING ? sqllex_read_string : sqllex_read_blob)(t, n, start, size, PROFILE, buffer, TEXT, &bytes);
+}
+static uint32_t write(uint32_t kind)
+{
+#ifdef READS
+    return DONE;
+#else
+    if (kind == INTEGER)
+        return sqllex_write_integer(value, again, TEXT, &bytes);
+    return (kind == STRING ? sqllex_write_string : sqllex_write_blob)(buffer, bytes, again, TEXT, &bytes);
+#endif
+}
+/* The records of literals come to the list's front. */
+static uint64_t literals(const uint8_t *t, uint64_t n, uint32_t *l, uint64_t c)
+{
+    uint64_t records = sqllex_list(t, n, PROFILE, l, c), count = 0;
+    for (uint64_t i = 0; i < records; i++)
+        if (l[3 * i] == STRING || l[3 * i] == INTEGER || l[3 * i] == BLOB)
+            memmove(l + 3 * count++, l + 3 * i, 3 * sizeof *l);
+    return count;
+}
+/* How many were read, and written. */
+static uint64_t under_profile(const uint8_t *t, uint64_t n, uint32_t *l, uint64_t c)
+{
+    static uint64_t records;
+    uint64_t count = 0;
+    if (!records)
+        records = literals(t, n, l, c);
+    for (uint64_t i = 0; i < records; i++)
+        if (read(t, n, l[3 * i + 1], l[3 * i + 2], l[3 * i]) == DONE && write(l[3 * i]) == DONE)
+            count++;
     return count;
 }
 #elif defined PROFILE

@@ -5,6 +5,7 @@ import shutil
 import sys
 
 from lexers import KIT, SQLITE_SOURCE, UNPROVED, compile_library, is_archives
+from literals import all_done, figures as of_literals
 from machines import M4, OUT, X86, Missing, run
 from packets import above, figures as in_parts, same_tokens
 from readings import a_step, code, figures, same_lexemes
@@ -18,6 +19,7 @@ MOST_GROWTH = 1  # percent from linear
 MOST_STEP = 30  # instructions
 MOST_STEPS_CODE = 2600  # bytes
 MOST_STREAM_STACK = 1024  # bytes
+MOST_LITERAL_STACK = 768  # bytes
 MOST_ABOVE_NEXT = {20: 75, 1: 120}  # instructions a byte, by the size of the parts
 
 
@@ -73,6 +75,9 @@ def main():
     part("Packet by packet", same_tokens)
     for machine in X86, M4:
         part(f"Packet by packet, instructions a byte, {machine.name}", in_parts, machine)
+    part("Literals", all_done)
+    for machine in X86, M4:
+        part(f"Literals, instructions, {machine.name}", of_literals, machine)
     worst = part("How List grows, x86-64: one text once, twice and four times", growth)
     bounds = [part(f"Stack in bytes, {machine.name}", stacks, machine) for machine in (X86, M4)]
     _, lookup = [part(f"Code size in bytes, {machine.name}", sizes, machine) for machine in (X86, M4)]
@@ -80,8 +85,10 @@ def main():
     for machine in X86, M4:
         part(f"List by function, text sync, {machine.name}", profile, machine)
     print("\n== Targets")
-    good = test("stack bound of a whole call, in bytes, both machines", max(calls for calls, _ in bounds), MOST_STACK)
-    good &= test("stack bound of a stream's call, in bytes, both machines", max(streams for _, streams in bounds), MOST_STREAM_STACK)
+    calls, streams, literals = (max(of_both) for of_both in zip(*bounds))
+    good = test("stack bound of a whole call, in bytes, both machines", calls, MOST_STACK)
+    good &= test("stack bound of a stream's call, in bytes, both machines", streams, MOST_STREAM_STACK)
+    good &= test("stack bound of a call that reads or writes a literal, in bytes, both machines", literals, MOST_LITERAL_STACK)
     good &= test("the lookup of a word with its tables, in bytes, Cortex-M4", lookup, MOST_LOOKUP)
     for machine, most in MOST_INSTRUCTIONS.items():
         for lexer in ours:

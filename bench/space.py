@@ -8,6 +8,8 @@ from speed import KINDS_OF_TEXT, present, text
 
 ENTRIES = "sqllex_next", "sqllex_list", "sqllex_list_from", "sqllex_cut"
 STREAM_ENTRIES = "sqllex_stream_begin", "sqllex_stream_offer", "sqllex_stream_finish"
+LITERAL_ENTRIES = tuple(f"sqllex_{call}_{kind}" for call in ("read", "write") for kind in ("integer", "string", "name", "blob"))
+ALL_ENTRIES = *ENTRIES, *STREAM_ENTRIES, *LITERAL_ENTRIES
 LOOKUP = "words::lookup::", "keywords::"  # the functions that look a word up
 
 
@@ -28,23 +30,22 @@ def painted(machine, lexer):
 
 
 def stacks(machine):
-    """Prints a line for each call, and gives the largest bound, and the largest of a stream's calls."""
+    """Prints a line for each call, and gives the largest bound, that of a stream's calls, and that of those that read and write literals."""
     used = {}
     for lexer in "calls", "Rust", "SQLite":
         try:
             used |= painted(machine, lexer)
         except Missing as why:
             print(f"SKIPPED what was used by {lexer}: {why}")
-    entries = [*ENTRIES, *STREAM_ENTRIES]
-    bounds = {entry: graph.bound(functions(machine), entry, machine.pushed) for entry in entries}
-    for entry in [*entries, *sorted(set(used) - set(entries))]:
+    bounds = {entry: graph.bound(functions(machine), entry, machine.pushed) for entry in ALL_ENTRIES}
+    for entry in [*ALL_ENTRIES, *sorted(set(used) - set(ALL_ENTRIES))]:
         size, chain = bounds.get(entry, (None, []))
         figure = lambda n: f"{n:,}" if n else "-"
         print(f"{entry:22} bound {figure(size):>5}  used {figure(used.get(entry)):>5}   {' > '.join(chain)}".rstrip())
     if unknown := graph.elsewhere(functions(machine)):
         raise SystemExit(f"bench: FAIL: there is no bound on the stack, since these are not in the library: {', '.join(sorted(unknown))}")
     largest = lambda some: max(bounds[entry][0] for entry in some)
-    return largest(ENTRIES), largest(STREAM_ENTRIES)
+    return largest(ENTRIES), largest(STREAM_ENTRIES), largest(LITERAL_ENTRIES)
 
 
 def sizes(machine):
@@ -54,7 +55,7 @@ def sizes(machine):
     code = lambda names: sum(size[".text." + name] for name in names)
     lookup = code(name for name in found if name.startswith(LOOKUP)) + constants
     print(f"{'the library':42}{code(found) + constants:7,}")
-    for entry in [*ENTRIES, *STREAM_ENTRIES]:
+    for entry in ALL_ENTRIES:
         print(f"{'what a program with ' + entry + ' has':42}{code(graph.reached(found, entry)) + constants:7,}")
     for name in found:
         print(f"    {name:38}{code([name]):7,}")

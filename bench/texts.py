@@ -2,8 +2,9 @@
 """bench/texts.py FOLDER: writes the texts that are measured, the same bytes on every machine. None of them has anything that is refused.
 
 sync.sql is like what a device gets from its phone: routes, waypoints and settings. grow1, grow2 and grow4 are one such text of 16,000
-bytes once, twice and four times, so that they differ in length alone. The others are of one kind of token each; the last three are what
-is dearest for a stream: lexemes nearly as long as it takes them, and tokens that are settled two bytes behind their ends.
+bytes once, twice and four times, so that they differ in length alone. The others are of one kind of token each: comments, digits and
+colons are what is dearest for a stream, lexemes nearly as long as it takes them, and tokens that are settled two bytes behind their ends;
+the last three, and the one string, are literals to be read and written.
 """
 import hashlib
 import pathlib
@@ -106,6 +107,9 @@ def texts():
     yield "comments", many(lambda: "/*" + "." * 2036 + "*/")
     yield "digits", many(lambda: "1" + "_1" * 1000)
     yield "colons", (b"$a:(" * SIZE)[:SIZE]
+    yield "integers", many(lambda: f"{d.below(10 ** (1 + d.below(10)))}")
+    yield "quotes", b"'" + b"''" * (SIZE // 2 - 1) + b"'"
+    yield "blob", (b"x'" + b"0F" * (SIZE // 2 - 2) + b"'").ljust(SIZE)
 
 
 if __name__ == "__main__":
