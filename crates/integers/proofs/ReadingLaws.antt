@@ -21,7 +21,7 @@ use Rattle.grammar.specs.Runs.{char}
 use Rattle.grammar.proofs.Seen.{inside, inside-holds}
 use Rattle.grammar.proofs.Equal.{within}
 use Rattle.buffers.specs.Buffers.{Said}
-use Rattle.spans.specs.Spans.{span, IsNumber}
+use Rattle.spans.specs.Spans.{span, IsTokenWith}
 use Rattle.spans.proofs.TokenLaws.{some-digits, integer-form, integer-sum}
 use Rattle.spans.proofs.ReadingLaws.{part-is}
 use Rattle.integers.specs.declared.reading.IntegerRead.{IntegerRead}
@@ -134,12 +134,12 @@ integer-fits w d h c = (
   λ e l. let n : d ≡ sum (count H (drop 2 w)) = rw e at c in few 16 H 16 hexadecimals (omega arith) (drop 2 w) (hexadecimal-every w h e) (omega arith),
 )
 
-pub number-fits : (p : Profile) (s : List ℕ) (start n d : ℕ) → IsNumber p s start n (kind "TK_INTEGER") d → Fit (take (start + n - start) (drop start s)) d
+pub number-fits : (p : Profile) (s : List ℕ) (start n d : ℕ) → IsTokenWith p s start n (kind "TK_INTEGER") d → Fit (take (start + n - start) (drop start s)) d
 number-fits p s start n d h =
     subst (λ (w : List ℕ). Fit w d) (sym (part-is s start n))
     (integer-fits (span s start n) d (integer-form p s start n (some-digits p s start n (kind "TK_INTEGER") d h)) (integer-sum p s start n d h))
 
-pub part-read : (p : Profile) (s : List ℕ) (start n d : ℕ) → IsNumber p s start n (kind "TK_INTEGER") d → (r : IntegerRead)
+pub part-read : (p : Profile) (s : List ℕ) (start n d : ℕ) → IsTokenWith p s start n (kind "TK_INTEGER") d → (r : IntegerRead)
     → saidOf r ≡ integerOf (take (start + n - start) (drop start s)) → ReadsInteger p s start n r
 unfolding ReadsInteger
 part-read p s start n d h r e = inr (some-digits p s start n (kind "TK_INTEGER") d h, e ∙ ap integerOf (part-is s start n))

@@ -10,7 +10,7 @@ use Rattle.grammar.specs.Answers.{isHex}
 use Rattle.buffers.specs.Buffers.{Said, valued, refusedAs}
 use Rattle.integers.specs.Numbers.{value, padded, width}
 
--- 64 bits taken as two's complement, so sixteen F's are -1; and back
+-- 64 bits taken as two's complement, so sixteen F's are -1 (`negsuc k` is -1 - k); and back
 unfoldable pub signed : ℕ → ℤ
 signed n = cond (ltb n (2 ^ 63)) (pos n) (negsuc (2 ^ 64 - suc n))
 

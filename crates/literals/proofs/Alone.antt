@@ -6,7 +6,7 @@ use mathlib.Core.Bool.{false}
 use mathlib.Core.List.{List}
 use mathlib.Core.Logic.{inl, inr}
 use lib.ListN.{length, getD, take, drop, length-drop}
-use lib.Seq.{length-take-le, take-all, getD-take, drop-cons}
+use lib.Seq.{length-take-le, take-all}
 use Rattle.keywords.specs.Kinds.{kind}
 use Rattle.grammar.specs.declared.profile.Profile.{Profile}
 use Rattle.grammar.specs.Classes.{Class, rules, malformed}
@@ -17,8 +17,9 @@ use Rattle.grammar.proofs.Theorems.{sound, one-class, look-ahead}
 use Rattle.grammar.proofs.Tokens.{told, whole-token}
 use Rattle.stream.proofs.Shift.{shift-answer}
 use Rattle.stream.specs.Calls.{shift}
-use Rattle.spans.specs.Spans.{span, IsNumber, IsToken, IsName}
-use Rattle.spans.proofs.TokenLaws.{inside, span-long}
+use Rattle.spans.specs.Spans.{span, IsTokenWith, IsToken, IsName}
+use Rattle.spans.proofs.TokenLaws.{inside}
+use Rattle.strings.proofs.LexemeLaws.{first-byte}
 
 module _ (p : Profile) where
   -- what stands in a class does so by itself
@@ -63,8 +64,8 @@ module _ (p : Profile) where
 
 -- of a span that is a token
 module _ (p : Profile) (s : List ℕ) (start n : ℕ) where
-  pub number-alone : (k d : ℕ) → IsNumber p s start n k d → IsNumber p (span s start n) 0 n k d
-  unfolding IsNumber
+  pub number-alone : (k d : ℕ) → IsTokenWith p s start n k d → IsTokenWith p (span s start n) 0 n k d
+  unfolding IsTokenWith
   number-alone k d (u, g) = (u, token-alone p s start k start n (start + n) d u g)
 
   pub is-alone : (k : ℕ) → IsToken p s start n k → IsToken p (span s start n) 0 n k
@@ -74,6 +75,4 @@ module _ (p : Profile) (s : List ℕ) (start n : ℕ) where
   pub name-alone : IsName p s start n → IsName p (span s start n) 0 n
   unfolding IsName
   name-alone (h, q) =
-      let (i, o) = inside p s start n (kind "TK_ID") h in
-      let first : getD (span s start n) 0 0 ≡ getD s start 0 = getD-take n (drop start s) 0 0 o ∙ ap (λ (w : List ℕ). getD w 0 0) (drop-cons s start 0 (omega arith)) in
-      (is-alone (kind "TK_ID") h, rw first q)
+      (is-alone (kind "TK_ID") h, rw (first-byte s start n (inside p s start n (kind "TK_ID") h .1)) q)

@@ -18,7 +18,7 @@ use Rattle.grammar.proofs.ClassLaws.{only, one-rule}
 use Rattle.grammar.proofs.Lexemes as Lexemes
 use Rattle.grammar.proofs.Theorems.{sound, one-class}
 use Rattle.grammar.proofs.Tokens.{whole-token}
-use Rattle.spans.specs.Spans.{IsNumber, IsToken}
+use Rattle.spans.specs.Spans.{IsTokenWith, IsToken}
 use Rattle.spans.proofs.KindLaws.{kindAfter, quotedForm}
 
 module _ (p : Profile) where
@@ -34,7 +34,7 @@ module _ (p : Profile) where
 
   given : (c : Class) (k : ℕ) (w : List ℕ) → malformed c ≡ false → kindAfter (answer c 0 w) ≡ suc k → 0 < length w → Longest (rules p) w c (length w)
       → IsToken p w 0 (length w) k
-  unfolding IsToken IsNumber
+  unfolding IsToken IsTokenWith
   given c k w l e o h =
       let (j, d, u, f, x) = whole-token c 0 w l in
       let kinds : j ≡ k = omega (arith, sym (ap kindAfter f) ∙ e) in

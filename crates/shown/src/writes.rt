@@ -3,11 +3,10 @@ use crate::lines::put_line;
 use crate::lines::unset;
 use crate::numbers::value_of;
 use blobs::writing::write_blob;
-use buffers::written::Written;
 use integers::writing::write_integer;
 use rows::out::filled;
 use rows::out::put_byte;
-use spans::answers::BytesRead;
+use spans::answers::read_of;
 use strings::writing::write_name;
 use strings::writing::write_string;
 ghost use Rattle.rows.specs.Out.{Within};
@@ -42,7 +41,7 @@ fn put_string_written(out: &mut [u8], at: usize, bytes: &[u8], buffer: &mut [u8]
     ensures { λ r. ⌜ Within (now (out .exit)) r ⌝ }
 {
     unset(buffer);
-    let answer = as_read(write_string(bytes, buffer));
+    let answer = read_of(write_string(bytes, buffer));
     put_line(out, at, b"STRING", answer, buffer)
 }
 
@@ -50,7 +49,7 @@ fn put_name_written(out: &mut [u8], at: usize, bytes: &[u8], buffer: &mut [u8]) 
     ensures { λ r. ⌜ Within (now (out .exit)) r ⌝ }
 {
     unset(buffer);
-    let answer = as_read(write_name(bytes, buffer));
+    let answer = read_of(write_name(bytes, buffer));
     put_line(out, at, b"NAME", answer, buffer)
 }
 
@@ -58,7 +57,7 @@ fn put_blob_written(out: &mut [u8], at: usize, bytes: &[u8], buffer: &mut [u8]) 
     ensures { λ r. ⌜ Within (now (out .exit)) r ⌝ }
 {
     unset(buffer);
-    let answer = as_read(write_blob(bytes, buffer));
+    let answer = read_of(write_blob(bytes, buffer));
     put_line(out, at, b"BLOB", answer, buffer)
 }
 
@@ -66,14 +65,6 @@ fn put_integer_written(out: &mut [u8], at: usize, value: i64, buffer: &mut [u8])
     ensures { λ r. ⌜ Within (now (out .exit)) r ⌝ }
 {
     unset(buffer);
-    let answer = as_read(write_integer(value, buffer));
+    let answer = read_of(write_integer(value, buffer));
     put_line(out, at, b"INTEGER", answer, buffer)
-}
-
-// What was written has a line as what was read has.
-fn as_read(answer: Written) -> BytesRead {
-    match answer {
-        Written::Length(n) => BytesRead::Length(n),
-        Written::NoRoom => BytesRead::NoRoom,
-    }
 }

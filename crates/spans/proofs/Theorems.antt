@@ -13,11 +13,11 @@ use Rattle.spans.specs.declared.span.Found.{Found}
 use Rattle.spans.specs.declared.span.Found.the-variants.{Whole, Other}
 use Rattle.spans.specs.declared.answers.BytesRead.{BytesRead}
 use Rattle.spans.specs.declared.answers.BytesRead.the-variants.{Length, NotThatLiteral, NoRoom}
-use Rattle.spans.specs.Spans.{IsNumber, Finds, Reads, ReadsBytes, saidOf}
+use Rattle.spans.specs.Spans.{IsTokenWith, Finds, Reads, ReadsBytes, saidOf}
 use Rattle.spans.proofs.TokenLaws.{some-digits}
 
 pub found-unique : (p : Profile) (s : List ℕ) (start n k : ℕ) (r q : Found) → Finds p s start n k r → Finds p s start n k q → r ≡ q
-unfolding IsNumber
+unfolding IsTokenWith
 found-unique p s start n k (Whole d) (Whole e) (u, g) (v, h) = let f = gives-unique (rules p) s start _ _ g h in let same : d ≡ e = cc in ap Whole same
 found-unique p s start n k (Whole d) Other g h = absurd (h (some-digits p s start n k d g))
 found-unique p s start n k Other (Whole e) g h = absurd (g (some-digits p s start n k e h))

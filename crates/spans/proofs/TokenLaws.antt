@@ -24,7 +24,7 @@ use Rattle.lexer.specs.declared.lexed.Lexed.{Lexed}
 use Rattle.lexer.specs.declared.lexed.Lexed.the-variants.{Token, End, Refused}
 use Rattle.lexer.specs.Values.{LexesUnder}
 use Rattle.lexer.proofs.lexed.Lexed as Lexed-is
-use Rattle.spans.specs.Spans.{span, isQuote, IsNumber, IsToken, IsName}
+use Rattle.spans.specs.Spans.{span, isQuote, IsTokenWith, IsToken, IsName}
 use Rattle.spans.proofs.KindLaws.{kindAfter, isLiteral, classFor, quotedForm, literal-class, name-form}
 
 abbrev lengthOf : Answer → ℕ
@@ -34,8 +34,8 @@ lengthOf (refusal k start n offset) = 0
 
 -- what Next tells of it
 module _ (p : Profile) (s : List ℕ) (start n k : ℕ) where
-  pub number-told : (d : ℕ) (h : IsNumber p s start n k d) → (u : ℕ) × Told p s start k start n (start + n) d u
-  unfolding IsNumber
+  pub number-told : (d : ℕ) (h : IsTokenWith p s start n k d) → (u : ℕ) × Told p s start k start n (start + n) d u
+  unfolding IsTokenWith
   number-told d (u, g) = (u, told p s start k start n (start + n) d u g)
 
   -- it lies in the text, and has a byte
@@ -47,7 +47,7 @@ module _ (p : Profile) (s : List ℕ) (start n k : ℕ) where
   span-long h = let i = inside h .0 in length-take-le n (drop start s) (omega (arith, length-drop start s))
 
   -- a token of so many digits is a token
-  pub some-digits : (d : ℕ) → IsNumber p s start n k d → IsToken p s start n k
+  pub some-digits : (d : ℕ) → IsTokenWith p s start n k d → IsToken p s start n k
   unfolding IsToken
   some-digits d h = (d, h)
 
@@ -99,7 +99,7 @@ module _ (p : Profile) (s : List ℕ) (start n : ℕ) where
       of-some (suc m) o c l b w q h = name-form p c b w m q l h
 
   -- an integer's digits are counted
-  pub integer-sum : (d : ℕ) → IsNumber p s start n (kind "TK_INTEGER") d → d ≡ sum (integerDigits (span s start n))
+  pub integer-sum : (d : ℕ) → IsTokenWith p s start n (kind "TK_INTEGER") d → d ≡ sum (integerDigits (span s start n))
   integer-sum d h =
       let (u, t) = number-told p s start n (kind "TK_INTEGER") d h in
       let c = literal-class (t .class) start (span s start n) (kind "TK_INTEGER") refl (ap kindAfter (t .gives)) in
@@ -117,21 +117,21 @@ which r = tagOf Lexed-is.the-type r
 -- and what it says of the span
 module _ (p : Profile) (s : List ℕ) (start n k : ℕ) where
   pub no-token : (r : Lexed) → LexesUnder p s start r → OneOf (1 ∷ 2 ∷ []) (which r) → IsToken p s start n k → ⊥
-  unfolding LexesUnder IsToken IsNumber
+  unfolding LexesUnder IsToken IsTokenWith
   no-token (Token j from m next d u) l o g = ⊎-elim (λ e. omega arith) (λ e. omega arith) o
   no-token (End next) l o (d, (u, g)) = let e = ap kindAfter (gives-unique (rules p) s start _ _ l g) in omega arith
   no-token (Refused why from m next) l o (d, (u, g)) = let e = ap kindAfter (gives-unique (rules p) s start _ _ l g) in omega arith
 
   pub other-kind : (j from m : ℕ) (next : Cursor) (d u : ℕ) → LexesUnder p s start (Token j from m next d u) → (j ≡ k → ⊥) → IsToken p s start n k → ⊥
-  unfolding LexesUnder IsToken IsNumber
+  unfolding LexesUnder IsToken IsTokenWith
   other-kind j from m next d u l o (e, (v, g)) = let f = ap kindAfter (gives-unique (rules p) s start _ _ l g) in o (omega arith)
 
   pub other-length : (j from m : ℕ) (next : Cursor) (d u : ℕ) → LexesUnder p s start (Token j from m next d u) → (m ≡ n → ⊥) → IsToken p s start n k → ⊥
-  unfolding LexesUnder IsToken IsNumber
+  unfolding LexesUnder IsToken IsTokenWith
   other-length j from m next d u l o (e, (v, g)) = o (ap lengthOf (gives-unique (rules p) s start _ _ l g))
 
-  pub found : (j from m : ℕ) (next : Cursor) (d u : ℕ) → LexesUnder p s start (Token j from m next d u) → j ≡ k → m ≡ n → IsNumber p s start n k d
-  unfolding LexesUnder IsNumber
+  pub found : (j from m : ℕ) (next : Cursor) (d u : ℕ) → LexesUnder p s start (Token j from m next d u) → j ≡ k → m ≡ n → IsTokenWith p s start n k d
+  unfolding LexesUnder IsTokenWith
   found j from m next d u l e f =
       let t = told p s start j from m (next .at) d u l in
       let same : token j from m (next .at) d u ≡ token k start n (start + n) d u = rw (e, t .starts, t .goes, f) in

@@ -21,12 +21,12 @@ use Rattle.spans.specs.declared.answers.BytesRead.the-variants.{Length, 
 abbrev pub span : List ℕ → ℕ → ℕ → List ℕ
 span s start n = take n (drop start s)
 
--- the span is exactly what Next gives at its start, of that kind; and so with so many digits
-unfoldable pub IsNumber : Profile → List ℕ → ℕ → ℕ → ℕ → ℕ → Type 0
-IsNumber p s start n k digits = (underscores : ℕ) × Next (source p s) start (token k start n (start + n) digits underscores)
+-- the span is exactly what Next gives at its start, of that kind, with so many digits; and with any number of them
+unfoldable pub IsTokenWith : Profile → List ℕ → ℕ → ℕ → ℕ → ℕ → Type 0
+IsTokenWith p s start n k digits = (underscores : ℕ) × Next (source p s) start (token k start n (start + n) digits underscores)
 
 unfoldable pub IsToken : Profile → List ℕ → ℕ → ℕ → ℕ → Type 0
-IsToken p s start n k = (digits : ℕ) × IsNumber p s start n k digits
+IsToken p s start n k = (digits : ℕ) × IsTokenWith p s start n k digits
 
 -- what opens a quoted name; 7: `[` too. No bare word begins so.
 unfoldable pub isQuote : Profile → ℕ → Bool
@@ -37,7 +37,7 @@ IsName p s start n = IsToken p s start n (kind "TK_ID") × (isQuote p (getD s st
 
 -- which of the two a search says
 abbrev pub Finds : Profile → List ℕ → ℕ → ℕ → ℕ → Found → Type 0
-Finds p s start n k (Whole digits) = IsNumber p s start n k digits
+Finds p s start n k (Whole digits) = IsTokenWith p s start n k digits
 Finds p s start n k Other = IsToken p s start n k → ⊥
 
 -- the span is not that literal, or it is, and this is its value

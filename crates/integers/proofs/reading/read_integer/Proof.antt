@@ -5,7 +5,7 @@ use mathlib.Core.Path.{subst}
 use lib.ListN.{length}
 use borrow.Author.Needs.{needs}
 use Rattle.keywords.specs.Kinds.{kind}
-use Rattle.spans.specs.Spans.{IsNumber, Finds}
+use Rattle.spans.specs.Spans.{IsTokenWith, Finds}
 use Rattle.spans.proofs.TokenLaws.{inside, some-digits}
 use Rattle.spans.proofs.ReadingLaws.{not-that}
 use Rattle.integers.specs.Calls.{ReadsInteger}
@@ -32,7 +32,7 @@ start c = c .before .before .before .before .before
 
 whole : (c : tie.After-known-told) →
     let a = start c .args in
-    IsNumber (a .profile) (a .text .now) (a .start) (a .length) (kind "TK_INTEGER") (c .before .digits .given .0 .0)
+    IsTokenWith (a .profile) (a .text .now) (a .start) (a .length) (kind "TK_INTEGER") (c .before .digits .given .0 .0)
 whole c = subst (Finds _ _ _ _ _) (c .before .digits .given .1) (c .before .before .before .find .ensures)
 
 ends : (c : tie.After-known-told) → let a = start c .args in a .start + a .length ≤ length (a .text .now)
