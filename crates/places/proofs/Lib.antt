@@ -1,0 +1,2 @@
+pub mod LineLaws
+pub mod Theorems
