@@ -1,4 +1,6 @@
 pub mod WalkLaws
+pub mod NewlineLaws
+pub mod LinesLaws
 pub mod ListLaws
 pub mod CutLaws
 pub mod GaplessLaws

@@ -1,13 +1,19 @@
 -- Where `list` stands in its loop, and what it answers from there. Assumes nothing.
-use Prim.Native.Nat.{ℕ, _+_, _-_, _*_, _≤_, _<_}
+use Prim.Native.Nat.{ℕ, _+_, _*_, _/_, _≤_, _<_}
 use native.Mathlib.Omega.{arith}
-use native.Mathlib.Numerals.{add-one, add-two}
 use mathlib.Core.Path.{_≡_, refl, sym, _∙_, ap, subst}
-use mathlib.Core.List.{List, [], _∷_, _++_, append-assoc}
+use mathlib.Core.Bool.{Bool, true, false}
+use mathlib.Core.List.{List, [], _∷_, _++_}
 use mathlib.Core.Logic.{inl, inr}
-use lib.ListN.{length, drop, take, length-append, length-drop}
-use lib.Seq.{sets, sets-eq, take-at, drop-append-add, drop-drop}
-use Rattle.grammar.specs.Classes.{rules}
+use lib.ListN.{length, length-append}
+use lib.Seq.{slice}
+use borrow.Author.Tests.{leb-true, leb-false}
+use Rattle.records.specs.declared.Record.{Record}
+use Rattle.records.specs.Records.{width, isFree, withRecord}
+use Rattle.records.proofs.RecordLaws.{with-none, Front, front-none, front-long, front-more}
+use Rattle.places.specs.declared.Line.{Line}
+use Rattle.places.specs.Lines.{lineOver, lineOf}
+use Rattle.places.proofs.Theorems.{first, goes-along, column-of}
 use Rattle.grammar.specs.Answers.{Answer, token, end}
 use Rattle.grammar.specs.Longest.{Source, Next}
 use Rattle.lexer.specs.declared.cursor.Cursor.{Cursor}
@@ -16,107 +22,133 @@ use Rattle.lexer.specs.declared.lexed.Lexed.the-variants.{Token, End as Over, R
 use Rattle.lexer.specs.Values.{LexesUnder, valuesOf, numberOf}
 use Rattle.lists.specs.declared.list.Listed.the-variants.{End, Refused, TooLong, ListFull}
 use Rattle.lists.specs.Walk.{Legal, tokenOf, Passes}
-use Rattle.lists.specs.Lists.{recordOf, recordsOf, HasRoom, listAnswer, longestText, Listing, Lists, put}
-use Rattle.lists.proofs.WalkLaws.{legal, token-passes, end-no-token, refusal-no-token}
+use Rattle.lists.specs.Lists.{recordOf, recordsOf, HasRoom, listAnswer, longestText, Listing, Lists}
+use Rattle.lists.specs.Lines.{recordOn, lineBehind}
+use Rattle.lists.proofs.WalkLaws.{legal, token-told, token-passes, passes-count, end-no-token, refusal-no-token}
+use Rattle.lists.proofs.LinesLaws.{behind-token, record-made}
 
-records-append : (l m : List Legal) → recordsOf (l ++ m) ≡ recordsOf l ++ recordsOf m
+records-one : (s : List ℕ) (l : List Legal) (t : Legal) → recordsOf s (l ++ (t ∷ [])) ≡ recordsOf s l ++ (recordOf s t ∷ [])
 unfolding recordsOf
-records-append [] m = refl
-records-append (t ∷ l) m =
-    ap (λ (x : List ℕ). recordOf t ++ x) (records-append l m) ∙ sym (append-assoc (recordOf t) (recordsOf l) (recordsOf m))
+records-one s [] t = refl
+records-one s (u ∷ l) t = ap (λ (x : List Record). recordOf s u ∷ x) (records-one s l t)
 
-records-one : (l : List Legal) (t : Legal) → recordsOf (l ++ (t ∷ [])) ≡ recordsOf l ++ recordOf t
+pub records-many : (s : List ℕ) (l : List Legal) → length (recordsOf s l) ≡ length l
 unfolding recordsOf
-records-one l t = records-append l (t ∷ [])
+records-many s [] = refl
+records-many s (t ∷ l) = omega (arith, records-many s l)
 
-records-long : (l : List Legal) → length (recordsOf l) ≡ 3 * length l
-unfolding recordsOf
-records-long [] = refl
-records-long (t ∷ l) = omega (arith, records-long l)
-
--- a record put behind the records
-put-behind : (rs old : List ℕ) (i : ℕ) (t : Legal) → length rs ≡ i → i + 3 ≤ length old
-    → put (rs ++ drop i old) i (t .kind) (t .start) (t .length) ≡ (rs ++ recordOf t) ++ drop (i + 3) old
-put-behind rs old i t e h =
-    let w = rs ++ drop i old in
-    let l : length w ≡ length old = length-append rs (drop i old) ∙ omega (arith, length-drop i old) in
-    let p : put w i (t .kind) (t .start) (t .length) ≡ sets w i (recordOf t) = rw (add-one, add-two) in
-    let q = sets-eq (recordOf t) w i (omega arith) in
-    let a : take i w ≡ rs = take-at rs (drop i old) i e in
-    let d : drop (i + 3) w ≡ drop (i + 3) old = rw (← e) (drop-append-add rs (drop (length rs) old) 3 ∙ drop-drop 3 (length rs) old) in
-    p ∙ q ∙ rw (a, d)
-
--- n records, i numbers, stand at the front of the list that was
-pub record Inside (s : Source) (from : ℕ) (old out : List ℕ) (at n i : ℕ) : Type 0 where
+-- the records of the lexemes passed stand at the front of the list, and fill i numbers; `here` is the line at the place reached
+pub record Inside (s : Source) (from : ℕ) (old out : List ℕ) (at : ℕ) (here : Line) (i : ℕ) : Type 0 where
   pub passed : List Legal
   pub passes : Passes (HasRoom (length old)) s [] from passed at
-  pub many : n ≡ length passed
-  pub filled : i ≡ length (recordsOf passed)
-  pub room : i ≤ length old
-  pub holds : out ≡ recordsOf passed ++ drop i old
+  pub filled : i ≡ width * length passed
+  pub front : Front (recordsOf (s .text) passed) old out
+  pub line : at ≤ length (s .text) → here ≡ lineOf (s .text) at
 
-pub begins : (s : Source) (from : ℕ) (old : List ℕ) → Inside s from old old from 0 0
+pub begins : (s : Source) (from : ℕ) (old : List ℕ) (here : Line) → length (s .text) ≤ longestText
+    → here ≡ lineOver (record { number = 1; start = 0 }) 0 (slice 0 from (s .text)) → Inside s from old old from here 0
 unfolding Passes recordsOf
-begins s from old = record { passed = []; passes = refl; many = refl; filled = refl; room = omega arith; holds = refl }
+begins s from old here short e =
+    record {
+      passed = [];
+      passes = refl;
+      filled = refl;
+      front = front-none old;
+      line = λ h.
+          e ∙ ap (λ (l : Line). lineOver l 0 (slice 0 from (s .text))) (sym (first (s .text))) ∙
+          goes-along (s .text) 0 from (omega arith) (omega arith) h;
+    }
 
-module _ {s : Source} {from : ℕ} {old out : List ℕ} {at n i : ℕ} (v : Inside s from old out at n i) where
+module _ {s : Source} {from : ℕ} {old out : List ℕ} {at : ℕ} {here : Line} {i : ℕ} (v : Inside s from old out at here i) where
   pub same-long : length out ≡ length old
-  same-long = ap length (v .holds) ∙ length-append (recordsOf (v .passed)) (drop i old) ∙ omega (arith, length-drop i old, v .filled, v .room)
+  same-long = front-long (v .front)
 
-  pub three : i ≡ 3 * n
-  three = v .filled ∙ records-long (v .passed) ∙ omega (arith, v .many)
-
-  -- with room for one record more
-  pub onward : (k start m : ℕ) (next : Cursor) (d u : ℕ) → LexesUnder (s .profile) (s .text) at (Token k start m next d u) → i + 3 ≤ length out
-      → Inside s from old (put out i k start m) (next .at) (n + 1) (i + 3)
-  unfolding LexesUnder
-  onward k start m next d u h r =
-      let t = legal k start m d u in
-      let e = same-long in
-      let f = v .filled in
-      let one = records-one (v .passed) t in
-      record {
-        passed = v .passed ++ (t ∷ []);
-        passes = token-passes (HasRoom (length old)) s from (v .passed) at k start m (next .at) d u (v .passes) h (omega arith);
-        many = omega (arith, length-append (v .passed) (t ∷ []), v .many);
-        filled = sym (ap length one ∙ length-append (recordsOf (v .passed)) (recordOf t) ∙ omega arith);
-        room = omega arith;
-        holds =
-            ap (λ (l : List ℕ). put l i k start m) (v .holds) ∙ put-behind (recordsOf (v .passed)) old i t (sym f) (omega arith) ∙
-            ap (λ (l : List ℕ). l ++ drop (i + 3) old) (sym one);
-      }
+  -- how many records they are
+  pub many : i / width ≡ length (v .passed)
+  many = omega (arith, v .filled)
 
   -- the walk ends here
   listing : (there : Answer) → Next s at there → ((t : Legal) → there ≡ tokenOf t → HasRoom (length old) (v .passed) t → ⊥)
-      → Listing s from old (listAnswer at there) n out
+      → Listing s from old (listAnswer at there) (i / width) out
   listing there g stuck =
       record {
         walk = record { passed = v .passed; to = at; passes = v .passes; there = there; gives = g; stops = stuck };
         answers = refl;
-        counted = v .many;
-        written = v .holds ∙ ap (λ (m : ℕ). recordsOf (v .passed) ++ drop m old) (v .filled);
+        counted = many;
+        written = v .front .holds;
       }
 
   module _ (short : length (s .text) ≤ longestText) where
-    pub end-lists : (next : Cursor) → LexesUnder (s .profile) (s .text) at (Over next) → Lists s from old (End n next) out
+    module _ (k start m : ℕ) (next : Cursor) (d u : ℕ) (h : LexesUnder (s .profile) (s .text) at (Token k start m next d u)) where
+      -- a token stands on this line
+      stands : here ≡ lineOf (s .text) at
+      stands = let o = token-told s at k start m next d u h in v .line (omega (arith, o .goes, o .inside))
+
+      -- what its record, and the line behind it, ask for
+      pub asked : (here .start ≤ at) × (at + m ≤ longestText)
+      asked = let o = token-told s at k start m next d u h in (rw stands (column-of (s .text) at .0), omega (arith, o .goes, o .inside))
+
+      -- the records so far are no more than the longest text has bytes
+      pub few : i ≤ width * longestText
+      few =
+          let o = token-told s at k start m next d u h in
+          let n = v .filled in
+          let count = passes-count (HasRoom (length old)) s [] from (v .passed) at (v .passes) in
+          omega (arith, o .goes, o .inside)
+
+      module _ (free : Bool) (out′ : List ℕ) (f : free ≡ isFree out i) (e : out′ ≡ withRecord out i (recordOn here k at m)) where
+        -- one record more, where it has room
+        pub onward : free ≡ true → (here′ : Line) → here′ ≡ lineBehind (s .text) k at m here → Inside s from old out′ (next .at) here′ (i + width)
+        unfolding LexesUnder
+        onward fits here′ moved =
+            let t = legal k start m d u in
+            let r = recordOf (s .text) t in
+            let rs = recordsOf (s .text) (v .passed) in
+            let made : recordOn here k at m ≡ r = ap (λ (l : Line). recordOn l k at m) stands ∙ record-made s at k start m (next .at) d u h in
+            let room = leb-true (i + width) (length out) (sym f ∙ fits) in
+            let same = same-long in
+            let n = v .filled in
+            let many = records-many (s .text) (v .passed) in
+            let at-i : width * length rs ≡ i = omega arith in
+            let more = subst (λ (a : ℕ). Front (rs ++ (r ∷ [])) old (withRecord out a r)) at-i (front-more (v .front) r (omega arith)) in
+            let written : withRecord out i r ≡ out′ = ap (withRecord out i) (sym made) ∙ sym e in
+            let more = subst (Front (rs ++ (r ∷ [])) old) written more in
+            record {
+              passed = v .passed ++ (t ∷ []);
+              passes = token-passes (HasRoom (length old)) s from (v .passed) at k start m (next .at) d u (v .passes) h (omega arith);
+              filled = omega (arith, length-append (v .passed) (t ∷ []));
+              front = subst (λ (x : List Record). Front x old out′) (sym (records-one (s .text) (v .passed) t)) more;
+              line = λ x. moved ∙ ap (lineBehind (s .text) k at m) stands ∙ behind-token s at k start m (next .at) d u h short;
+            }
+
+        -- no place for it
+        module _ (none : free ≡ false) where
+          pub full-same : out′ ≡ out
+          full-same = e ∙ with-none out i (recordOn here k at m) (sym f ∙ none)
+
+          pub full-lists : (given : Cursor) → at ≡ given .at → Lists s from old (ListFull (i / width) given) out′
+          unfolding LexesUnder Lists
+          full-lists given p =
+              let there = token k start m (next .at) d u in
+              let room = leb-false (i + width) (length out) (sym f ∙ none) in
+              let same = same-long in
+              let n = v .filled in
+              let here : Listing s from old (listAnswer at there) (i / width) out = listing there h (λ t p o. omega arith) in
+              inr (
+                short,
+                subst (λ (a : ℕ). Listing s from old (listAnswer a there) (i / width) out′) p
+                    (subst (Listing s from old (listAnswer at there) (i / width)) (sym full-same) here),
+              )
+
+    pub end-lists : (next : Cursor) → LexesUnder (s .profile) (s .text) at (Over next) → Lists s from old (End (i / width) next) out
     unfolding LexesUnder Lists
     end-lists next g = inr (short, listing (end (next .at)) g (λ t e o. end-no-token (next .at) t e))
 
     pub refusal-lists : (why : Refusal) (start m : ℕ) (next : Cursor) → LexesUnder (s .profile) (s .text) at (Bad why start m next)
-        → Lists s from old (Refused why start m n next) out
+        → Lists s from old (Refused why start m (i / width) next) out
     unfolding LexesUnder Lists
     refusal-lists why start m next g =
         inr (short, listing (valuesOf (Bad why start m next)) g (λ t e o. refusal-no-token (numberOf why) start m (next .at) t e))
-
-    pub full-lists : (here : Cursor) → at ≡ here .at → (k start m : ℕ) (next : Cursor) (d u : ℕ) → LexesUnder (s .profile) (s .text) at (Token k start m next d u)
-        → length out - i < 3 → Lists s from old (ListFull n here) out
-    unfolding LexesUnder Lists
-    full-lists here e k start m next d u g h =
-        let there = token k start m (next .at) d u in
-        let l = same-long in
-        let f = v .filled in
-        let r = v .room in
-        inr (short, subst (λ (a : ℕ). Listing s from old (listAnswer a there) n out) e (listing there g (λ t p o. omega arith)))
 
 -- a text that is too long
 pub too-long-lists : (s : Source) (from : ℕ) (old : List ℕ) (next : Cursor) → from ≡ next .at → longestText < length (s .text)

@@ -1,12 +1,12 @@
 -- The tables of texts hold. Assumes nothing.
-use Prim.Native.Nat.{ℕ, zero, suc, _+_}
+use Prim.Native.Nat.{ℕ, zero, suc, _+_, _*_}
 use native.Mathlib.Omega.{arith}
 use mathlib.Core.Path.{_≡_, refl, sym, _∙_, ap, subst}
 use mathlib.Core.Bool.{Bool, true, false, cond, not, _&&_, true≢false}
 use mathlib.Core.List.{List, [], _∷_, _++_, map, nil≢cons, head-eq-of-cons-eq, tail-eq-of-cons-eq}
 use mathlib.Core.Logic.{inl, inr}
 use lib.Dec.{T, eqb, leb, eqb→eq, leb→le, le→leb}
-use lib.ListN.{length, drop}
+use lib.ListN.{length}
 use Rattle.keywords.specs.Kinds.{kind}
 use Rattle.keywords.proofs.Logic.{split, and-left, and-right, every}
 use Rattle.keywords.specs.Words.{wordList}
@@ -19,10 +19,12 @@ use Rattle.grammar.specs.Longest.{Every, Source, Next}
 use Rattle.grammar.proofs.Model.{next}
 use Rattle.grammar.proofs.Lexemes.{next-gives}
 use Rattle.grammar.proofs.Theorems.{sound}
+use Rattle.records.specs.Records.{width, numbersOfAll, atFront}
+use Rattle.places.specs.Places.{newlines, sinceNewline, lineAt, columnAt}
 use Rattle.lists.specs.Walk.{Legal, Goes, Passes}
 use Rattle.lists.specs.declared.list.Listed.{Listed}
 use Rattle.lists.specs.declared.cut.Statement.{Statement}
-use Rattle.lists.specs.Lists.{recordOf, recordsOf, HasRoom, listAnswer, Listing, answerOf, recordsIn, longestText, Lists}
+use Rattle.lists.specs.Lists.{recordsOf, HasRoom, listAnswer, Listing, answerOf, recordsIn, longestText, Lists}
 use Rattle.lists.specs.Cuts.{CutAnswer, kindsOf, Within, someNotNone, cutAnswer, Cutting, valuesOf, Cuts}
 use Rattle.lists.specs.Texts.{CutRow, cuts, ListRow, lists}
 use Rattle.lists.proofs.WalkLaws.{legal, legalOf, Stuck, token-passes, end-no-token, refusal-no-token}
@@ -103,18 +105,18 @@ listGiven r (stop l to there) =
       lent = r .lent;
       answer = listAnswer to there;
       records = length l;
-      left = recordsOf l ++ drop (length (recordsOf l)) (r .lent);
+      left = atFront (recordsOf (r .source .text) l) (r .lent);
     } ∷
     []
 
 abbrev hasRoom : ℕ → Test
-hasRoom numbers l t = leb (length (recordsOf l) + length (recordOf t)) numbers
+hasRoom numbers l t = leb (width * length l + width) numbers
 
 abbrev listWalk : ListRow → Stop
 listWalk r = walk 20 (hasRoom (length (r .lent))) (r .source) [] (r .from)
 
 computed-lists : map (λ r. listGiven r (listWalk r)) lists ≡ map (λ r. r ∷ []) lists
-unfolding lists recordsOf rules operators isDigit isHexdigit isIdentifierStart isIdentifierContinue isBlank answer kindOf upper wordList
+unfolding lists recordsOf numbersOfAll lineAt columnAt newlines sinceNewline rules operators isDigit isHexdigit isIdentifierStart isIdentifierContinue isBlank answer kindOf upper wordList
 computed-lists = refl
 
 within-decides : Decides Within within

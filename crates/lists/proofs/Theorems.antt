@@ -3,7 +3,7 @@
 -- to the text's length. `too-long`, `past-end`: the refusals that come first. `cut-ends-with-semi`, `cut-as-before`: where a statement ends,
 -- and that all but triggers end where document 01 has it. `one-run`: every text, of any length, has one run of lexemes from every offset, up
 -- to its end or the first malformed one. The tables of texts: TextLaws.antt. Assumes nothing.
-use Prim.Native.Nat.{ℕ, _+_, _-_, _≤_, _<_}
+use Prim.Native.Nat.{ℕ, _+_, _-_, _*_, _≤_, _<_}
 use native.Mathlib.Omega.{arith}
 use mathlib.Core.Path.{_≡_, refl, sym, _∙_, ap, subst, subst₂}
 use mathlib.Core.Bool.{Bool, true, false, cond, true≢false}
@@ -25,6 +25,9 @@ use Rattle.lexer.specs.declared.lexed.Refusal.the-variants.{BadExponentPart, Ma
 use Rattle.lexer.specs.Eaten.{cursor}
 use Rattle.lexer.specs.Values.{numberOf}
 use Rattle.lexer.proofs.Theorems.{refusalOf, refusal-back}
+use Rattle.records.specs.declared.Record.{Record}
+use Rattle.records.specs.Records.{width, numbersOfAll, readBack, atFront}
+use Rattle.records.proofs.Theorems.{front-read}
 use Rattle.lists.specs.declared.list.Listed.{Listed}
 use Rattle.lists.specs.declared.list.Listed.the-variants.{End, Refused, TooLong, ListFull}
 use Rattle.lists.specs.declared.cut.Statement.{Statement}
@@ -35,6 +38,7 @@ use Rattle.lists.specs.Lists.{recordsOf, HasRoom, listAnswer, longestTex
 use Rattle.lists.specs.Cuts.{CutAnswer, cut, opened, ended, refused, kindsOf, Within, someNotNone, cutAnswer, Cutting, valuesOf, Cuts}
 use Rattle.lists.specs.Gapless.{Follow, Each, RunEnds, Ends, Gapless}
 use Rattle.lists.proofs.WalkLaws.{legal, is-legal, refusal-no-token, known, passes-ahead, walk-one, run}
+use Rattle.lists.proofs.ListLaws.{records-many}
 use Rattle.lists.proofs.CutLaws.{kinds-append}
 use Rattle.lists.proofs.GaplessLaws.{passes-follow, passes-each, always-ends, gapless}
 
@@ -83,7 +87,7 @@ listing-unique s from old a b m n new new′ x y =
     let (p, q, t) = walk-one (HasRoom (length old)) s from (x .walk) (y .walk) in (
       x .answers ∙ ap (λ (at : ℕ). listAnswer at (x .walk .there)) q ∙ ap (listAnswer (y .walk .to)) t ∙ sym (y .answers),
       x .counted ∙ ap length p ∙ sym (y .counted),
-      x .written ∙ ap (λ (l : List Legal). recordsOf l ++ drop (length (recordsOf l)) old) p ∙ sym (y .written),
+      x .written ∙ ap (λ (l : List Legal). atFront (recordsOf (s .text) l) old) p ∙ sym (y .written),
     )
 
 -- The contract of `list` leaves one answer and one list.
@@ -96,6 +100,14 @@ list-unique s from old r q new new′ (inr (h, x)) (inl (k, u, v, w)) = absurd (
 list-unique s from old r q new new′ (inr (h, x)) (inr (k, y)) =
     let (a, m, e) = listing-unique s from old (answerOf r) (answerOf q) (recordsIn r) (recordsIn q) new new′ x y in
     (same-values r q a m, e)
+
+-- Read back, the list has the walk's records, one for each lexeme passed, and behind them those in what it held.
+pub list-read-back : (s : Source) (from : ℕ) (old : List ℕ) (a : Answer) (n : ℕ) (new : List ℕ) (x : Listing s from old a n new)
+    → (rs : List Record) × (rs ≡ recordsOf (s .text) (x .walk .passed)) × (length rs ≡ n) × (readBack new ≡ rs ++ readBack (drop (width * n) old))
+list-read-back s from old a n new x =
+    let rs = recordsOf (s .text) (x .walk .passed) in
+    let many : length rs ≡ n = records-many (s .text) (x .walk .passed) ∙ sym (x .counted) in
+    (rs, refl, many, ap readBack (x .written) ∙ front-read rs old ∙ ap (λ (m : ℕ). rs ++ readBack (drop (width * m) old)) many)
 
 -- An answer of the cut can be read back from its values.
 abbrev statementOf : CutAnswer → Statement
@@ -131,7 +143,7 @@ too-long s from old r new h x = list-unique s from old r (TooLong (cursor from))
 -- Then an offset past the end; the list stays as it was.
 pub past-end : (s : Source) (from : ℕ) (old : List ℕ) (r : Listed) (new : List ℕ) → length (s .text) ≤ longestText → length (s .text) < from
     → Lists s from old r new → (r ≡ Refused OffsetPastEnd 0 0 0 (cursor from)) × (new ≡ old)
-unfolding Lists Passes recordsOf
+unfolding Lists Passes recordsOf numbersOfAll
 past-end s from old r new short h x =
     list-unique s from old r (Refused OffsetPastEnd 0 0 0 (cursor from)) new old x (inr (short, here))
   where

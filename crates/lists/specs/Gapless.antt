@@ -4,12 +4,13 @@
 use Prim.Native.Nat.{ℕ, _+_, _<_}
 use mathlib.Core.Path.{_≡_}
 use mathlib.Core.Bool.{Bool, true, false}
-use mathlib.Core.List.{List, [], _∷_, _++_}
+use mathlib.Core.List.{List, [], _∷_}
 use mathlib.Core.Logic.{_⊎_}
 use lib.ListN.{length, take, drop}
 use Rattle.grammar.specs.Classes.{Class, malformed, rules}
 use Rattle.grammar.specs.Answers.{Answer, end, pastEnd, answer}
 use Rattle.grammar.specs.Longest.{Every, Longest, Source}
+use Rattle.records.specs.Records.{atFront}
 use Rattle.lists.specs.Walk.{Legal, tokenOf}
 use Rattle.lists.specs.Lists.{recordsOf, listFull, HasRoom}
 
@@ -46,4 +47,4 @@ pub record Gapless (s : Source) (from : ℕ) (old : List ℕ) (a : Answer) (reco
   pub each : Each s lexemes
   pub ends : Ends s (length old) lexemes to a
   pub counted : records ≡ length lexemes
-  pub written : new ≡ recordsOf lexemes ++ drop (length (recordsOf lexemes)) old
+  pub written : new ≡ atFront (recordsOf (s .text) lexemes) old

@@ -1,6 +1,7 @@
 pub mod Refusals
 pub mod Walk
 pub mod Lists
+pub mod Lines
 pub mod Cuts
 pub mod Gapless
 pub mod Texts

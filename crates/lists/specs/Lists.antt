@@ -1,24 +1,28 @@
 -- What List owes: the records of a walk at the front of the lent list, and the rest of it as it was. Assumes nothing.
-use Prim.Native.Nat.{ℕ, _+_, _≤_, _<_}
+use Prim.Native.Nat.{ℕ, _+_, _*_, _≤_, _<_}
 use mathlib.Core.Path.{_≡_}
-use mathlib.Core.List.{List, [], _∷_, _++_}
+use mathlib.Core.List.{List, [], _∷_}
 use mathlib.Core.Logic.{_⊎_}
-use lib.ListN.{length, drop, set}
+use lib.ListN.{length}
 use Rattle.grammar.specs.Answers.{Answer, token, end, refusal}
 use Rattle.grammar.specs.Longest.{Source}
 use Rattle.lexer.specs.Values.{numberOf}
+use Rattle.records.specs.declared.Record.{Record}
+use Rattle.records.specs.Records.{width, atFront}
+use Rattle.places.specs.Places.{lineAt, columnAt}
 use Rattle.lists.specs.declared.list.Listed.{Listed}
 use Rattle.lists.specs.declared.list.Listed.the-variants.{End, Refused, TooLong, ListFull}
 use Rattle.lists.specs.Refusals.{listRefusal}
 use Rattle.lists.specs.Walk.{Legal, Goes, Walk}
 
--- a record's numbers
-abbrev pub recordOf : Legal → List ℕ
-recordOf t = t .kind ∷ t .start ∷ t .length ∷ []
+-- a lexeme's record, with the line and column of its start
+abbrev pub recordOf : List ℕ → Legal → Record
+recordOf s t =
+    record { kind = t .kind; start = t .start; length = t .length; line = lineAt s (t .start); column = columnAt s (t .start) }
 
-unfoldable pub recordsOf : List Legal → List ℕ
-recordsOf [] = []
-recordsOf (t ∷ l) = recordOf t ++ recordsOf l
+unfoldable pub recordsOf : List ℕ → List Legal → List Record
+recordsOf s [] = []
+recordsOf s (t ∷ l) = recordOf s t ∷ recordsOf s l
 
 -- List's own refusals: a text that is too long, from a place; a lexeme without a place, at its start
 abbrev pub tooLong : ℕ → Answer
@@ -29,7 +33,7 @@ listFull at = refusal (listRefusal "ListFull") at 0 at
 
 -- in a list of so many numbers a whole record is free behind those of `before`
 abbrev pub HasRoom : ℕ → Goes
-HasRoom room before t = length (recordsOf before) + length (recordOf t) ≤ room
+HasRoom room before t = width * length before + width ≤ room
 
 -- the answer by what Next gives where the walk stops: End and a refusal as they are; a legal lexeme has no place
 abbrev pub listAnswer : ℕ → Answer → Answer
@@ -42,7 +46,7 @@ pub record Listing (s : Source) (from : ℕ) (old : List ℕ) (answer : Answer) 
   pub walk : Walk (HasRoom (length old)) s from
   pub answers : answer ≡ listAnswer (walk .to) (walk .there)
   pub counted : records ≡ length (walk .passed)
-  pub written : new ≡ recordsOf (walk .passed) ++ drop (length (recordsOf (walk .passed))) old
+  pub written : new ≡ atFront (recordsOf (s .text) (walk .passed)) old
 
 -- what each case of an answer says, and its records
 abbrev pub answerOf : Listed → Answer
@@ -66,7 +70,3 @@ unfoldable pub Lists : Source → ℕ → List ℕ → Listed → List ℕ → T
 Lists s from old r new =
     ((longestText < length (s .text)) × (answerOf r ≡ tooLong from) × (recordsIn r ≡ 0) × (new ≡ old)) ⊎
     ((length (s .text) ≤ longestText) × Listing s from old (answerOf r) (recordsIn r) new)
-
--- for a private function: three numbers at a place of a list
-abbrev pub put : List ℕ → ℕ → ℕ → ℕ → ℕ → List ℕ
-put l at kind start n = set (set (set l at kind) (at + 1) start) (at + 2) n

@@ -1,20 +1,20 @@
 // A text's records into a lent list of numbers.
+use crate::lines::line_behind_token;
+use crate::lines::record_of;
 use grammar::profile::Profile;
 use lexer::cursor::Cursor;
 use lexer::lexed::Lexed;
 use lexer::lexed::Refusal;
 use lexer::next::next;
-ghost use mathlib.Core.Path.{_≡_};
-ghost use Prim.Native.Nat.{_+_, _≤_};
-ghost use lib.ListN.{length};
+use places::FIRST;
+use places::line_behind;
+use records::WIDTH;
+use records::put;
 ghost use Rattle.grammar.specs.Longest.{source};
-ghost use Rattle.lists.specs.Lists.{Lists, put};
+ghost use Rattle.lists.specs.Lists.{Lists};
 
 // The longest text that `list` takes.
 pub const LONGEST_TEXT: usize = 65535;
-
-// How many numbers a record has.
-pub const WIDTH: usize = 3;
 
 // Why the list ends where it does, and how many records it has. `Refused` is what `next` refuses; `ListFull` is at the lexeme that
 // has no place.
@@ -39,7 +39,7 @@ pub enum Listed {
     },
 }
 
-// A record for each legal lexeme from the cursor on: kind, start, length.
+// A record for each legal lexeme from the cursor on: kind, start, length, line, column.
 pub fn list(text: &[u8], cursor: Cursor, profile: Profile, numbers: &mut [u32]) -> Listed
     ensures { λ r. ⌜ Lists (source profile (now (text .entry))) (cursor .at) (now (numbers .entry)) r (now (numbers .exit)) ⌝ }
 {
@@ -47,27 +47,36 @@ pub fn list(text: &[u8], cursor: Cursor, profile: Profile, numbers: &mut [u32]) 
         return Listed::TooLong { next: cursor };
     }
     let mut at = cursor;
-    let mut records = 0;
+    let mut line = line_behind(text, 0, cursor.at, FIRST);
     let mut filled = 0;
     loop {
         match next(text, at, profile) {
             Lexed::Token {
                 kind,
-                start,
+                start: _,
                 length,
                 next,
                 digits: _,
                 underscores: _,
             } => {
-                if numbers.len() - filled < WIDTH {
-                    return Listed::ListFull { records, next: at };
+                // A token starts at the cursor.
+                let record = record_of(kind, at.at, length, line);
+                if !put(numbers, filled, record) {
+                    return Listed::ListFull {
+                        records: filled / WIDTH,
+                        next: at,
+                    };
                 }
-                put_record(numbers, filled, kind, start as u32, length as u32);
                 filled += WIDTH;
-                records += 1;
+                line = line_behind_token(text, kind, at.at, length, line);
                 at = next;
             }
-            Lexed::End { next } => return Listed::End { records, next },
+            Lexed::End { next } => {
+                return Listed::End {
+                    records: filled / WIDTH,
+                    next,
+                };
+            }
             Lexed::Refused {
                 why,
                 start,
@@ -78,19 +87,10 @@ pub fn list(text: &[u8], cursor: Cursor, profile: Profile, numbers: &mut [u32]) 
                     why,
                     start,
                     length,
-                    records,
+                    records: filled / WIDTH,
                     next,
                 };
             }
         }
     }
-}
-
-fn put_record(numbers: &mut [u32], at: usize, kind: u32, start: u32, bytes: u32)
-    requires { ⌜ at + 3 ≤ length (now numbers) ⌝ }
-    ensures { λ _. ⌜ now (numbers .exit) ≡ put (now (numbers .entry)) at kind start bytes ⌝ }
-{
-    numbers[at] = kind;
-    numbers[at + 1] = start;
-    numbers[at + 2] = bytes;
 }

@@ -1,34 +1,39 @@
--- `lists::list::list` meets its contract. The loop's invariant: the records so far stand at the front of the list. Assumes nothing.
+-- `lists::list::list` meets its contract. The loop's invariant: the records so far stand at the front of the list, and the line is that of
+-- the place reached. Assumes nothing.
 use Prim.Native.Nat.{_-_, _≤_}
 use native.Mathlib.Omega.{arith}
-use mathlib.Core.Path.{subst, refl}
+use mathlib.Core.Path.{subst, refl, sym, _∙_, ap}
 use lib.ListN.{length}
 use borrow.Author.Needs.{needs}
+use borrow.Author.Tests.{not-true, not-false}
+use Rattle.records.specs.Records.{withRecord}
 use Rattle.grammar.specs.Longest.{source}
 use Rattle.lexer.specs.Values.{LexesUnder}
 use Rattle.lexer.proofs.Moves.{moves}
 use Rattle.lists.specs.Lists.{longestText}
 use Rattle.lists.proofs.WalkLaws.{token-told}
-use Rattle.lists.proofs.ListLaws.{Inside, begins, same-long, three, onward, end-lists, refusal-lists, full-lists, too-long-lists}
+use Rattle.lists.proofs.ListLaws.{Inside, begins, same-long, asked, few, onward, end-lists, refusal-lists, full-same, full-lists}
+use Rattle.lists.proofs.ListLaws.{too-long-lists}
 use Rattle.lists.proofs.list.list.Statement.{statement}
 use Rattle.lists.proofs.list.list.Tie as tie
 
 abbrev Inv-loop : tie.InvT-loop
-Inv-loop text profile numbers₀ at₀ records₀ filled₀ numbers at records filled =
-    Inside (source profile text) (at₀ .at) numbers₀ numbers (at .at) records filled × (length text ≤ longestText)
+Inv-loop text profile numbers₀ at₀ line₀ filled₀ numbers at line filled =
+    Inside (source profile text) (at₀ .at) numbers₀ numbers (at .at) line filled × (length text ≤ longestText)
 
 abbrev μ-loop : tie.MeasureT-loop
-μ-loop text profile numbers₀ at₀ records₀ filled₀ numbers at records filled = length text - at .at
+μ-loop text profile numbers₀ at₀ line₀ filled₀ numbers at line filled = length text - at .at
 
 returns : tie.Need-returns Inv-loop μ-loop
-returns c =
-    let if1 = c .if1 in
-    too-long-lists _ _ _ _ refl (if1 .taken)
+returns c = too-long-lists _ _ _ _ refl (c .if1 .taken)
+
+line-behind-requires : tie.Need-line-behind-requires Inv-loop μ-loop
+line-behind-requires c κs = search needs
 
 loop-holds : tie.Need-loop-holds Inv-loop μ-loop
 loop-holds c =
-    let if1 = c .if1 in
-    (begins _ _ _, omega (arith, if1 .left))
+    let if1 = c .before .if1 in
+    (begins _ _ _ _ (if1 .left) (c .line-behind .ensures), if1 .left)
 
 next-requires : tie.Need-next-requires Inv-loop μ-loop
 next-requires c κs = search needs
@@ -36,78 +41,75 @@ next-requires c κs = search needs
 enum-known-kind : tie.Need-enum-known-kind Inv-loop μ-loop
 enum-known-kind c = search needs
 
-sub-if2 : tie.Need-sub-if2 Inv-loop μ-loop
-sub-if2 c =
+record-of-requires : tie.Need-record-of-requires Inv-loop μ-loop
+record-of-requires c κs =
+    let kind = c .before .kind in
+    let next = c .before .before .before .next in
     let loop = c .before .before .before .before .loop in
-    let l = same-long (loop .inv .0) in
-    omega (arith, loop .inv .0 .room)
+    asked (loop .inv .0) (loop .inv .1) _ _ _ _ _ _ (subst (LexesUnder _ _ _) (kind .given .1) (next .ensures))
+
+put-requires : tie.Need-put-requires Inv-loop μ-loop
+put-requires c κs = search needs
 
 same-length : tie.Need-same-length Inv-loop μ-loop
 same-length c =
-    let loop = c .before .before .before .before .before .loop in
-    same-long (loop .inv .0)
+    let if2 = c .if2 in
+    let put = c .before .before .before .put in
+    let record-of = c .before .before .before .before .before .record-of in
+    let kind = c .before .before .before .before .before .before .before .kind in
+    let next = c .before .before .before .before .before .before .before .before .before .next in
+    let loop = c .before .before .before .before .before .before .before .before .before .before .loop in
+    let token = subst (LexesUnder _ _ _) (kind .given .1) (next .ensures) in
+    let written = put .ensures .1 ∙ ap (withRecord _ _) (record-of .ensures) in
+    let same = full-same (loop .inv .0) (loop .inv .1) _ _ _ _ _ _ token _ _ (put .ensures .0) written (not-true _ (if2 .taken)) in
+    ap length same ∙ same-long (loop .inv .0)
 
 returns-2 : tie.Need-returns-2 Inv-loop μ-loop
 returns-2 c =
     let if2 = c .if2 in
-    let kind = c .before .before .kind in
-    let next = c .before .before .before .before .next in
-    let loop = c .before .before .before .before .before .loop in
-    full-lists (loop .inv .0) (loop .inv .1) _ refl _ _ _ _ _ _ (subst (LexesUnder _ _ _) (kind .given .1) (next .ensures)) (if2 .taken)
-
-cast-put-record : tie.Need-cast-put-record Inv-loop μ-loop
-cast-put-record c =
-    let kind = c .before .before .before .kind in
-    let next = c .before .before .before .before .before .next in
-    let loop = c .before .before .before .before .before .before .loop in
-    let t = token-told _ _ _ _ _ _ _ _ (subst (LexesUnder _ _ _) (kind .given .1) (next .ensures)) in
-    omega (arith, t .starts, t .goes, t .inside, loop .inv .1)
-
-cast-put-record-2 : tie.Need-cast-put-record-2 Inv-loop μ-loop
-cast-put-record-2 c =
-    let kind = c .before .before .before .kind in
-    let next = c .before .before .before .before .before .next in
-    let loop = c .before .before .before .before .before .before .loop in
-    let t = token-told _ _ _ _ _ _ _ _ (subst (LexesUnder _ _ _) (kind .given .1) (next .ensures)) in
-    omega (arith, t .starts, t .goes, t .inside, loop .inv .1)
-
-put-record-requires : tie.Need-put-record-requires Inv-loop μ-loop
-put-record-requires c κs =
-    let if2 = c .before .if2 in
-    let loop = c .before .before .before .before .before .before .loop in
-    let l = same-long (loop .inv .0) in
-    omega (arith, loop .inv .0 .room, if2 .left)
+    let put = c .before .before .before .put in
+    let record-of = c .before .before .before .before .before .record-of in
+    let kind = c .before .before .before .before .before .before .before .kind in
+    let next = c .before .before .before .before .before .before .before .before .before .next in
+    let loop = c .before .before .before .before .before .before .before .before .before .before .loop in
+    let token = subst (LexesUnder _ _ _) (kind .given .1) (next .ensures) in
+    let written = put .ensures .1 ∙ ap (withRecord _ _) (record-of .ensures) in
+    full-lists (loop .inv .0) (loop .inv .1) _ _ _ _ _ _ token _ _ (put .ensures .0) written (not-true _ (if2 .taken)) _ refl
 
 add-filled : tie.Need-add-filled Inv-loop μ-loop
 add-filled c =
-    let if2 = c .before .before .before .before .if2 in
-    let loop = c .before .before .before .before .before .before .before .before .before .loop in
-    let l = same-long (loop .inv .0) in
-    omega (arith, loop .inv .0 .room, if2 .left)
+    let kind = c .before .before .before .before .before .before .before .kind in
+    let next = c .before .before .before .before .before .before .before .before .before .next in
+    let loop = c .before .before .before .before .before .before .before .before .before .before .loop in
+    let few = few (loop .inv .0) (loop .inv .1) _ _ _ _ _ _ (subst (LexesUnder _ _ _) (kind .given .1) (next .ensures)) in
+    omega (arith, few)
 
-add-records : tie.Need-add-records Inv-loop μ-loop
-add-records c =
-    let if2 = c .before .before .before .before .if2 in
-    let loop = c .before .before .before .before .before .before .before .before .before .loop in
-    let l = same-long (loop .inv .0) in
-    omega (arith, loop .inv .0 .room, three (loop .inv .0), if2 .left)
+line-behind-token-requires : tie.Need-line-behind-token-requires Inv-loop μ-loop
+line-behind-token-requires c κs =
+    let kind = c .before .before .before .before .before .before .before .kind in
+    let next = c .before .before .before .before .before .before .before .before .before .next in
+    let t = token-told _ _ _ _ _ _ _ _ (subst (LexesUnder _ _ _) (kind .given .1) (next .ensures)) in
+    (t .some, omega (arith, t .goes, t .inside))
 
 loop-less : tie.Need-loop-less Inv-loop μ-loop
 loop-less c =
-    let kind = c .before .before .before .before .before .before .kind in
-    let next = c .before .before .before .before .before .before .before .before .next in
+    let kind = c .before .before .before .before .before .before .before .before .kind in
+    let next = c .before .before .before .before .before .before .before .before .before .before .next in
     let t = moves _ _ _ _ _ _ _ _ _ (subst (LexesUnder _ _ _) (kind .given .1) (next .ensures)) in
     omega arith
 
 loop-again : tie.Need-loop-again Inv-loop μ-loop
 loop-again c =
-    let put-record = c .before .before .put-record in
-    let if2 = c .before .before .before .before .if2 in
-    let kind = c .before .before .before .before .before .before .kind in
-    let next = c .before .before .before .before .before .before .before .before .next in
-    let loop = c .before .before .before .before .before .before .before .before .before .loop in
-    let go = onward (loop .inv .0) _ _ _ _ _ _ (subst (LexesUnder _ _ _) (kind .given .1) (next .ensures)) (omega (arith, if2 .left)) in
-    (rw (put-record .ensures) go, loop .inv .1)
+    let if2 = c .before .if2 in
+    let put = c .before .before .before .before .put in
+    let record-of = c .before .before .before .before .before .before .record-of in
+    let kind = c .before .before .before .before .before .before .before .before .kind in
+    let next = c .before .before .before .before .before .before .before .before .before .before .next in
+    let loop = c .before .before .before .before .before .before .before .before .before .before .before .loop in
+    let token = subst (LexesUnder _ _ _) (kind .given .1) (next .ensures) in
+    let written = put .ensures .1 ∙ ap (withRecord _ _) (record-of .ensures) in
+    let on = onward (loop .inv .0) (loop .inv .1) _ _ _ _ _ _ token _ _ (put .ensures .0) written (not-false _ (if2 .left)) in
+    (on _ (c .line-behind-token .ensures), loop .inv .1)
 
 enum-known-next : tie.Need-enum-known-next Inv-loop μ-loop
 enum-known-next c = search needs
@@ -142,17 +144,16 @@ list-spec =
     Inv-loop
     μ-loop
     returns
+    line-behind-requires
     loop-holds
     next-requires
     enum-known-kind
-    sub-if2
+    record-of-requires
+    put-requires
     same-length
     returns-2
-    cast-put-record
-    cast-put-record-2
-    put-record-requires
     add-filled
-    add-records
+    line-behind-token-requires
     loop-less
     loop-again
     enum-known-next
