@@ -34,17 +34,18 @@ module _ (s : List ℕ) (k start n : ℕ) (line : Line) where
   unfolding lineBehind
   one-clear e other = rw (eq-eqb n 1 e, ne-eqb b newline other)
 
-  pub one-newline : n ≡ 1 → b ≡ newline → lineOver line start (slice start (start + n) s) ≡ lineBehind s k start n line
+  pub one-newline : (r : Line) → r ≡ lineOver line start (slice start (start + n) s) → n ≡ 1 → b ≡ newline → r ≡ lineBehind s k start n line
   unfolding lineBehind
-  one-newline e f = rw (eq-eqb n 1 e, eq-eqb b newline f)
+  one-newline r o e f = rw (eq-eqb n 1 e, eq-eqb b newline f) o
 
   pub more-clear : (n ≡ 1 → ⊥) → hasNoNewline k b ≡ true → line ≡ lineBehind s k start n line
   unfolding lineBehind
   more-clear other e = rw (ne-eqb n 1 other, e)
 
-  pub more-bytes : (n ≡ 1 → ⊥) → hasNoNewline k b ≡ false → lineOver line start (slice start (start + n) s) ≡ lineBehind s k start n line
+  pub more-bytes : (r : Line) → r ≡ lineOver line start (slice start (start + n) s) → (n ≡ 1 → ⊥) → hasNoNewline k b ≡ false
+      → r ≡ lineBehind s k start n line
   unfolding lineBehind
-  more-bytes other e = rw (ne-eqb n 1 other, e)
+  more-bytes r o other e = rw (ne-eqb n 1 other, e) o
 
 take-none : (n : ℕ) → [] ≡ take {A = ℕ} n []
 take-none zero = refl

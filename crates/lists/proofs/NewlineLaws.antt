@@ -24,7 +24,7 @@ use Rattle.grammar.specs.Longest.{Follows, Gives}
 use Rattle.grammar.proofs.Equal.{isWithin, within}
 use Rattle.grammar.proofs.Equivalences.{or-iff, some-every}
 use Rattle.grammar.proofs.Tokens.{told}
-use Rattle.lists.specs.Lines.{hasNoNewline}
+use Rattle.lists.specs.Lines.{backtick, hasNoNewline}
 
 -- A form has only texts without a 0A, since none of its sets holds one.
 abbrev oneLine : Form → Bool
@@ -75,16 +75,16 @@ enough = 20
 abbrev quoted : Form → Bool
 quoted f = isWithin enough f (one quotes · anything)
 
-first-low : (f : Form) → quoted f ≡ true → (w : List ℕ) → Has f w → getD w 0 0 ≤ 0x60
+first-low : (f : Form) → quoted f ≡ true → (w : List ℕ) → Has f w → getD w 0 0 ≤ backtick
 first-low f q w h = let (u, v, e, i, x) = within enough f (one quotes · anything) q w h in rw e (low u v i)
   where
-    low : (u v : List ℕ) → Single quotes u → getD (u ++ v) 0 0 ≤ 0x60
+    low : (u v : List ℕ) → Single quotes u → getD (u ++ v) 0 0 ≤ backtick
     low [] v i = absurd i
     low (b ∷ []) v i =
-        split (leb b 0x60)
-        (λ e. leb-true b 0x60 e)
+        split (leb b backtick)
+        (λ e. leb-true b backtick e)
         (λ e.
-        let l = leb-false b 0x60 e in
+        let l = leb-false b backtick e in
         let none = rw (ne-eqb b 0x22 (omega arith), ne-eqb b 0x60 (omega arith), ne-eqb b 0x5B (omega arith)) at i in
         absurd (true≢false (sym none)))
     low (b ∷ c ∷ u) v i = absurd i
@@ -105,7 +105,7 @@ test-fails f k w t h = ⊎-elim below name (or-iff (ltb k (kind "TK_ID")) (eqb k
     name e =
         let same = eqb-true k (kind "TK_ID") (and-left (eqb k (kind "TK_ID")) (quoted f) e) in
         let low = first-low f (and-right (eqb k (kind "TK_ID")) (quoted f) e) w h in
-        rw (same, le-ltb 0x60 (getD w 0 0) low)
+        rw (same, le-ltb backtick (getD w 0 0) low)
 
 -- a token's kind; 0 for what is no token
 abbrev kindGiven : Answer → ℕ

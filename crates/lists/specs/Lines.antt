@@ -11,13 +11,17 @@ use Rattle.places.specs.declared.Line.{Line}
 use Rattle.places.specs.Places.{newline}
 use Rattle.places.specs.Lines.{lineOver}
 
+-- by its kind, start and length
 abbrev pub recordOn : Line → ℕ → ℕ → ℕ → Record
 recordOn l k start n = record { kind = k; start = start; length = n; line = l .number; column = start - l .start + 1 }
 
--- no token of this kind that begins with this byte has a 0A: blanks, comments and strings have kinds below TK_ID, and a quoted name begins
--- with a double quote, a bracket or a backtick
+-- the greatest byte with which a quoted name begins
+abbrev pub backtick : ℕ
+backtick = 0x60
+
+-- no token of this kind that begins with this byte has a 0A: blanks, comments and strings have kinds below TK_ID, quoted names TK_ID
 abbrev pub hasNoNewline : ℕ → ℕ → Bool
-hasNoNewline k first = ltb (kind "TK_ID") k || (eqb k (kind "TK_ID") && ltb 0x60 first)
+hasNoNewline k first = ltb (kind "TK_ID") k || (eqb k (kind "TK_ID") && ltb backtick first)
 
 -- the same of a token of n bytes, which is seen at once where it has one byte only
 abbrev pub isClear : ℕ → ℕ → ℕ → Bool

@@ -10,7 +10,7 @@ ghost use lib.ListN.{length as len};
 ghost use Rattle.lists.specs.Lists.{longestText};
 ghost use Rattle.lists.specs.Lines.{recordOn, hasNoNewline, lineBehind};
 
-// A token that stands on this line.
+// The record of a token that stands on this line.
 pub(crate) fn record_of(kind: u32, start: usize, length: usize, line: Line) -> Record
     requires { ⌜ (line .start ≤ start) × (start + length ≤ longestText) ⌝ }
     ensures { λ r. ⌜ r ≡ recordOn line kind start length ⌝ }
@@ -24,7 +24,8 @@ pub(crate) fn record_of(kind: u32, start: usize, length: usize, line: Line) -> R
     }
 }
 
-// The line behind a token that stands on this one. The bytes of a token are gone through only where they can have a 0A among them.
+// The line behind a token that stands on this one. Its bytes are gone through only where there can be a 0A among them; a token of one byte, as
+// most are, shows it at a glance.
 pub(crate) fn line_behind_token(
     text: &[u8],
     kind: u32,

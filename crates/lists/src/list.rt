@@ -59,7 +59,7 @@ pub fn list(text: &[u8], cursor: Cursor, profile: Profile, numbers: &mut [u32]) 
                 digits: _,
                 underscores: _,
             } => {
-                // A token starts at the cursor.
+                // A token starts at the cursor: its own start would be one number more to keep.
                 let record = record_of(kind, at.at, length, line);
                 if !put(numbers, filled, record) {
                     return Listed::ListFull {

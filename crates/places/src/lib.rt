@@ -6,7 +6,7 @@ ghost use lib.Seq.{slice};
 ghost use Rattle.places.specs.Lines.{most, lineOver, hasNewline, Clear, FirstNewline};
 
 // The byte that ends a line.
-pub const NEWLINE: u8 = 10;
+pub const NEWLINE: u8 = 0x0A;
 
 // A line's number, from 1 on, and the offset of its first byte.
 pub struct Line {
@@ -43,7 +43,7 @@ pub fn line_behind(text: &[u8], from: usize, to: usize, line: Line) -> Line
     }
 }
 
-// Four bytes at a time, then one by one.
+// The first 0A from an offset on, or where they end: four bytes at a time while these have none, then one by one.
 fn next_newline(text: &[u8], from: usize, to: usize) -> usize
     requires { ⌜ (from ≤ to) × (to ≤ length (now text)) ⌝ }
     ensures { λ r. ⌜ FirstNewline (now (text .entry)) from to r ⌝ }

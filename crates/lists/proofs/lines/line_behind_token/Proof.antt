@@ -18,7 +18,7 @@ line-behind-requires : tie.Need-line-behind-requires
 line-behind-requires c κs = search needs
 
 returns-2 : tie.Need-returns-2
-returns-2 c = c .line-behind .ensures ∙ one-newline _ _ _ _ _ (c .before .before .before .if1 .taken) (c .before .if2 .left)
+returns-2 c = one-newline _ _ _ _ _ _ (c .line-behind .ensures) (c .before .before .before .if1 .taken) (c .before .if2 .left)
 
 shared-slice-read-has-no-newline : tie.Need-shared-slice-read-has-no-newline
 shared-slice-read-has-no-newline c = search needs
@@ -40,7 +40,7 @@ line-behind-requires-2 c κs = search needs
 returns-4 : tie.Need-returns-4
 returns-4 c =
     let test = sym (c .before .before .has-no-newline .ensures) ∙ c .before .if3 .left in
-    c .line-behind2 .ensures ∙ more-bytes _ _ _ _ _ (c .before .before .before .before .if1 .left) test
+    more-bytes _ _ _ _ _ _ (c .line-behind2 .ensures) (c .before .before .before .before .if1 .left) test
 
 pub line-behind-token-spec : {M : Type 1} → statement M
 line-behind-token-spec =
