@@ -1,16 +1,17 @@
 // What `sqlbatch` and `replay` print of each record of their input.
 use grammar::profile::Profile;
+use printing::MOST;
 use printing::answers::Way;
 use printing::blocks::put_cut_block;
 use printing::blocks::put_list_block;
 use printing::blocks::put_stream_block;
 use printing::blocks::put_walk_block;
 use printing::blocks::put_word_block;
+use printing::input::Record;
+use printing::input::Unread;
+use printing::input::read_record;
+use printing::input::unread_none;
 use printing::kinds::all_names;
-use printing::records::Record;
-use printing::records::Unread;
-use printing::records::read_record;
-use printing::records::unread_none;
 use printing::replay::put_replay;
 use rows::out::flush;
 use rows::out::put;
@@ -41,7 +42,7 @@ pub enum Mode {
 pub fn print_records(mode: Mode, profile: Profile) {
     let names = all_names();
     // `Replay` lends four more than a list fills.
-    let mut numbers = [0u32; 196609];
+    let mut numbers = [0u32; MOST + 4];
     // What a stream holds.
     let mut held = [0u8; 2050];
     // What is read of literals, and what is written: no record of `shown` asks for more.

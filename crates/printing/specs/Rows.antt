@@ -2,9 +2,9 @@
 use Prim.Native.Nat.{ℕ, _≤_}
 use mathlib.Core.List.{List}
 use lib.ListN.{length}
-use Rattle.printing.specs.declared.records.Unread.{Unread}
-use Rattle.printing.specs.declared.records.Record.{Record}
-use Rattle.printing.specs.declared.records.Record.the-variants.{Text, Over, Short, Bad}
+use Rattle.printing.specs.declared.input.Unread.{Unread}
+use Rattle.printing.specs.declared.input.Record.{Record}
+use Rattle.printing.specs.declared.input.Record.the-variants.{Text, Over, Short, Bad}
 
 -- what is unread lies in the row
 abbrev pub Inside : List ℕ → Unread → Type 0

@@ -12,6 +12,7 @@ use lexer::cursor::Cursor;
 use lists::list::LONGEST_TEXT;
 use lists::list::Listed;
 use lists::list::list;
+use records::WIDTH;
 ghost use Prim.Native.Nat.{_≤_};
 ghost use Rattle.rows.specs.Out.{Within};
 
@@ -33,7 +34,7 @@ pub fn put_replay(
     put_cut_block(out, near, text, offset, profile)
 }
 
-// Lists of 0 to 7 numbers.
+// Lists of 0 to 11 numbers: of no record, of one and of two.
 fn put_small(
     out: &mut [u8],
     at: usize,
@@ -46,7 +47,7 @@ fn put_small(
 {
     let mut end = put_list_block(out, at, text, offset, profile, numbers, 0);
     let mut n = 1;
-    while n < 8 {
+    while n < 12 {
         end = put_list_block(out, end, text, offset, profile, numbers, n);
         n += 1;
     }
@@ -64,7 +65,7 @@ fn put_near(
 ) -> usize
     ensures { λ r. ⌜ Within (now (out .exit)) r ⌝ }
 {
-    let full = 3 * records(text, offset, profile, numbers);
+    let full = WIDTH * records(text, offset, profile, numbers);
     let short = put_list_block(out, at, text, offset, profile, numbers, before(full));
     let exact = put_list_block(out, short, text, offset, profile, numbers, full);
     put_list_block(out, exact, text, offset, profile, numbers, full + 4)

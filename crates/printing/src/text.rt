@@ -1,9 +1,9 @@
 // Standard input as one text.
 use crate::answers::Way;
 use crate::answers::put_walk;
+use crate::input::fill;
+use crate::input::unread_none;
 use crate::kinds::all_names;
-use crate::records::fill;
-use crate::records::unread_none;
 use grammar::profile::Profile;
 use lists::list::LONGEST_TEXT;
 use rows::out::filled;

@@ -4,7 +4,7 @@ use mathlib.Core.Path.{_≡_}
 use mathlib.Core.List.{List}
 use lib.ListN.{length}
 use borrow.Author.Tests.{lt-ltb, le-ltb}
-use Rattle.rows.specs.declared.records.Found.the-variants.{Text, Short, Bad}
+use Rattle.rows.specs.declared.input.Found.the-variants.{Text, Short, Bad}
 use Rattle.rows.specs.Records.{numberAt, longestRecord, whole, recordAt}
 
 module _ (row : List ℕ) where

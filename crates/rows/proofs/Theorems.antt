@@ -8,8 +8,8 @@ use mathlib.Core.List.{List}
 use lib.Dec.{ltb}
 use lib.ListN.{length}
 use borrow.Author.Tests.{ltb-false}
-use Rattle.rows.specs.declared.records.Found.{Found}
-use Rattle.rows.specs.declared.records.Found.the-variants.{Text, Short, Bad}
+use Rattle.rows.specs.declared.input.Found.{Found}
+use Rattle.rows.specs.declared.input.Found.the-variants.{Text, Short, Bad}
 use Rattle.rows.specs.Out.{Row, Gives}
 use Rattle.rows.specs.Records.{numberAt, longestRecord, recordAt}
 

@@ -5,8 +5,8 @@ use mathlib.Core.Bool.{cond}
 use mathlib.Core.List.{List}
 use lib.Dec.{ltb}
 use lib.ListN.{length, getD}
-use Rattle.rows.specs.declared.records.Found.{Found}
-use Rattle.rows.specs.declared.records.Found.the-variants.{Text, Short, Bad}
+use Rattle.rows.specs.declared.input.Found.{Found}
+use Rattle.rows.specs.declared.input.Found.the-variants.{Text, Short, Bad}
 
 abbrev pub numberAt : List ℕ → ℕ → ℕ
 numberAt row at =

@@ -1,5 +1,5 @@
 // Rows of bytes that the programs lend: what is printed is gathered in one (`out`, `numbers`), and what is read stands in another
-// (`records`).
+// (`input`).
+pub mod input;
 pub mod numbers;
 pub mod out;
-pub mod records;

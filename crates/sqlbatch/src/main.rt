@@ -11,7 +11,7 @@ fn main() {
     let Asked::For(mode, profile) = read_arguments() else {
         io::write_all(
             STDOUT_FILENO,
-            b"sqlbatch MODE [PROFILE], where MODE is next, sums, list N (N from 0 to 196605), cut, word, stream, literal or write, and PROFILE, not for word and write, turso or sqlite\n",
+            b"sqlbatch MODE [PROFILE], where MODE is next, sums, list N (N from 0 to 327675), cut, word, stream, literal or write, and PROFILE, not for word and write, turso or sqlite\n",
         );
         return;
     };

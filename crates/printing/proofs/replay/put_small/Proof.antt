@@ -1,4 +1,4 @@
--- `printing::replay::put_small` stays in the row; the loop counts to 8. Assumes nothing.
+-- `printing::replay::put_small` stays in the row; the loop counts to 12. Assumes nothing.
 use Prim.Native.Nat.{_≤_, _-_}
 use mathlib.Core.Path.{_≡_}
 use lib.ListN.{length}
@@ -8,10 +8,10 @@ use Rattle.printing.proofs.replay.put_small.Tie as tie
 
 abbrev Inv-loop : tie.InvT-loop
 Inv-loop out₀ at text offset profile numbers₀ end₀ n₀ out numbers end n =
-    (end ≤ length out) × (length out ≡ length out₀) × (length numbers ≡ length numbers₀) × (n ≤ 8)
+    (end ≤ length out) × (length out ≡ length out₀) × (length numbers ≡ length numbers₀) × (n ≤ 12)
 
 abbrev μ-loop : tie.MeasureT-loop
-μ-loop out₀ at text offset profile numbers₀ end₀ n₀ out numbers end n = 8 - n
+μ-loop out₀ at text offset profile numbers₀ end₀ n₀ out numbers end n = 12 - n
 
 put-list-block-requires : tie.Need-put-list-block-requires Inv-loop μ-loop
 put-list-block-requires c κs = search needs

@@ -6,7 +6,7 @@ use Rattle.sqlbatch.proofs.arguments.decimal.Statement.{statement}
 use Rattle.sqlbatch.proofs.arguments.decimal.Tie as tie
 
 abbrev Inv-loop : tie.InvT-loop
-Inv-loop word n₀ i₀ n i = (i ≤ length word) × (n ≤ 196605)
+Inv-loop word n₀ i₀ n i = (i ≤ length word) × (n ≤ 327675)
 
 abbrev μ-loop : tie.MeasureT-loop
 μ-loop word n₀ i₀ n i = length word - i

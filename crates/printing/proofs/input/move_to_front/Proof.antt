@@ -1,10 +1,10 @@
--- `printing::records::move_to_front` stays in the row, whose length it leaves. Assumes nothing.
+-- `printing::input::move_to_front` stays in the row, whose length it leaves. Assumes nothing.
 use Prim.Native.Nat.{_≤_, _-_}
 use mathlib.Core.Path.{_≡_}
 use lib.ListN.{length}
 use borrow.Author.Needs.{needs}
-use Rattle.printing.proofs.records.move_to_front.Statement.{statement}
-use Rattle.printing.proofs.records.move_to_front.Tie as tie
+use Rattle.printing.proofs.input.move_to_front.Statement.{statement}
+use Rattle.printing.proofs.input.move_to_front.Tie as tie
 
 abbrev Inv-loop : tie.InvT-loop
 Inv-loop row₀ from n i₀ row i = (i ≤ n) × (length row ≡ length row₀)

@@ -1,4 +1,4 @@
--- `printing::records::found_in`: a text that is found stands in what is unread. Assumes nothing.
+-- `printing::input::found_in`: a text that is found stands in what is unread. Assumes nothing.
 use Prim.Native.Nat.{ℕ, _+_, _-_, _≤_}
 use native.Mathlib.Omega.{arith}
 use mathlib.Core.Path.{_≡_, sym, _∙_}
@@ -6,12 +6,12 @@ use mathlib.Core.List.{List}
 use lib.ListN.{length, take, drop, length-drop}
 use lib.Seq.{length-take-le}
 use borrow.Author.Needs.{needs}
-use Rattle.rows.specs.declared.records.Found.{Found}
-use Rattle.rows.specs.declared.records.Found.the-variants.{Text}
+use Rattle.rows.specs.declared.input.Found.{Found}
+use Rattle.rows.specs.declared.input.Found.the-variants.{Text}
 use Rattle.rows.specs.Records.{recordAt}
 use Rattle.rows.proofs.Theorems.{inside}
-use Rattle.printing.proofs.records.found_in.Statement.{statement}
-use Rattle.printing.proofs.records.found_in.Tie as tie
+use Rattle.printing.proofs.input.found_in.Statement.{statement}
+use Rattle.printing.proofs.input.found_in.Tie as tie
 
 inside-part : (row : List ℕ) (from to : ℕ) → from ≤ to → to ≤ length row → {r : Found} {offset start end : ℕ} → r ≡ Text offset start end
     → r ≡ recordAt (take (to - from) (drop from row)) → (start ≤ end) × (from + end ≤ to)

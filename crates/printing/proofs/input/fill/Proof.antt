@@ -1,10 +1,10 @@
--- `printing::records::fill` stays in the row; the measure is what is still wanted. Assumes nothing.
+-- `printing::input::fill` stays in the row; the measure is what is still wanted. Assumes nothing.
 use Prim.Native.Nat.{_≤_, _-_}
 use mathlib.Core.Path.{_≡_}
 use lib.ListN.{length}
 use borrow.Author.Needs.{needs}
-use Rattle.printing.proofs.records.fill.Statement.{statement}
-use Rattle.printing.proofs.records.fill.Tie as tie
+use Rattle.printing.proofs.input.fill.Statement.{statement}
+use Rattle.printing.proofs.input.fill.Tie as tie
 
 abbrev Inv-loop : tie.InvT-loop
 Inv-loop row₀ n from filled₀ row filled = (length row ≡ length row₀) × (filled ≤ length row)

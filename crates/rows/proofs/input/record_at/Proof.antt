@@ -1,9 +1,9 @@
--- `rows::records::record_at` meets its contract. Assumes nothing.
+-- `rows::input::record_at` meets its contract. Assumes nothing.
 use native.Mathlib.Omega.{arith}
 use borrow.Author.Needs.{needs}
 use Rattle.rows.proofs.RecordLaws.{short-head, short-text, too-long, whole-text}
-use Rattle.rows.proofs.records.record_at.Statement.{statement}
-use Rattle.rows.proofs.records.record_at.Tie as tie
+use Rattle.rows.proofs.input.record_at.Statement.{statement}
+use Rattle.rows.proofs.input.record_at.Tie as tie
 
 returns : tie.Need-returns
 returns c = short-head _ (c .if1 .taken)

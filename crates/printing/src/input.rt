@@ -1,8 +1,8 @@
 // Standard input, read in pieces as large as the row of bytes allows, and its records.
 use libc::STDIN_FILENO;
+use rows::input::Found;
+use rows::input::record_at;
 use rows::out::complain;
-use rows::records::Found;
-use rows::records::record_at;
 ghost use mathlib.Core.Path.{_≡_};
 ghost use Prim.Native.Nat.{_+_, _≤_};
 ghost use lib.ListN.{length};
