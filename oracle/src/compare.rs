@@ -15,6 +15,7 @@ mod lists;
 mod literals;
 mod makers;
 mod near;
+mod newlines;
 mod random;
 mod shares;
 mod statements;

@@ -7,22 +7,29 @@ use crate::token::TokenType::{
 use crate::walk::{walk, Source, Stop};
 use std::io;
 
-/// The numbers that the lexemes of the longest text can need: three for each byte.
-pub const MOST: usize = 3 * (TOO_LONG - 1);
+/// How many numbers a record has: kind, start, length, line and column.
+pub const WIDTH: usize = 5;
+
+/// The numbers that the lexemes of the longest text can need: a record for each byte.
+pub const MOST: usize = WIDTH * (TOO_LONG - 1);
 
 /// List takes shorter texts only.
 pub const TOO_LONG: usize = 65_536;
 
-/// Writes kind, start and length of each legal lexeme from the offset on. Gives how it stopped and the number of records.
+/// Writes the record of each legal lexeme from the offset on. Gives how it stopped and the number of records.
 pub fn list(source: Source, numbers: &mut [u32], text: &[u8], offset: usize) -> io::Result<(Stop, usize)> {
     if text.len() >= TOO_LONG {
         return Ok((Stop::Refusal("TooLong", 0, 0, offset), 0));
     }
+    let newlines: Vec<_> = (0..text.len()).filter(|&place| text[place] == 0x0a).collect();
     let (mut records, mut full) = (0, None);
     let stop = walk(source, text, offset, |kind, start, length| {
-        match numbers.get_mut(3 * records..3 * records + 3) {
+        match numbers.chunks_exact_mut(WIDTH).nth(records) {
             Some(free) => {
-                free.copy_from_slice(&[kinds::number(kind), start as u32, length as u32]);
+                let [line, column] = line_and_column(&newlines, start);
+                let [start, length, line, column] = [start, length, line, column].map(|number| number as u32);
+                let record: [u32; WIDTH] = [kinds::number(kind), start, length, line, column];
+                free.copy_from_slice(&record);
                 records += 1;
             }
             None => full = full.or(Some(start)),
@@ -31,6 +38,14 @@ pub fn list(source: Source, numbers: &mut [u32], text: &[u8], offset: usize) -> 
     })?;
     let full = full.map(|start| Stop::Refusal("ListFull", start, 0, start));
     Ok((full.unwrap_or(stop), records))
+}
+
+/// Request 1: 'Line is 1 plus the 0A bytes before the start; column is 1 plus the bytes since the last 0A before the start, or since the
+/// text's beginning.' From the places of all 0A bytes of the text, wherever List starts.
+fn line_and_column(newlines: &[usize], start: usize) -> [usize; 2] {
+    let before = &newlines[..newlines.partition_point(|&place| place < start)];
+    let since = before.last().map_or(0, |last| last + 1);
+    [1 + before.len(), 1 + start - since]
 }
 
 pub enum Statement {

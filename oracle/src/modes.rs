@@ -14,7 +14,7 @@ use crate::walk::{walk, Source, Stop};
 use std::io::{self, Write};
 
 pub const USAGE: &str = "\
-modes: next [PROFILE], sums [PROFILE], list N [PROFILE] (N 0 to 196605), cut [PROFILE], stream [PROFILE],
+modes: next [PROFILE], sums [PROFILE], list N [PROFILE] (N 0 to 327675), cut [PROFILE], stream [PROFILE],
 literal [PROFILE], word, write, replay (records in, answers out); answers; ahead; compare COUNT SEED FOLDER PROGRAM [ARG..];
 second COUNT SEED FOLDER; tokenizer COUNT SEED FOLDER PROGRAM [ARG..]; tokens PROGRAM [ARG..] (records in);
 complete COUNT SEED - PROGRAM [ARG..]. PROFILE is turso, also where none is named, or sqlite; FOLDER is - for none";
@@ -115,7 +115,8 @@ pub fn print_replay(out: &mut impl Write, offset: usize, text: &[u8]) -> io::Res
     let (_, records) = list::list(source, &mut vec![0; list::MOST], text, offset)?;
     Mode::Sums.print(source, out, offset, text)?;
     Mode::Sums.print(source, out, offset, text)?;
-    for n in (0..8).chain([(3 * records).saturating_sub(1), 3 * records, 3 * records + 4]) {
+    let full = list::WIDTH * records;
+    for n in (0..2 * list::WIDTH + 2).chain([full.saturating_sub(1), full, full + 4]) {
         Mode::List(n).print(source, out, offset, text)?;
     }
     Mode::Cut.print(source, out, offset, text)

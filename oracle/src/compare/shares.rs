@@ -43,7 +43,8 @@ fn made(plan: Plan) -> impl Iterator<Item = Family> {
 }
 
 fn real(plan: Plan) -> impl Iterator<Item = Family> {
-    let [whole, parts, damaged] = walks::real(tenths(plan, 5));
-    let families = [whole, parts, damaged, lists::real(tenths(plan, 2)), cuts::real(tenths(plan, 2))];
+    let mut families = Vec::from(walks::real(tenths(plan, 5)));
+    families.extend(lists::real(tenths(plan, 2)));
+    families.push(cuts::real(tenths(plan, 2)));
     families.into_iter().map(move |family| family.under(plan.profile))
 }
