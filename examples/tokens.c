@@ -27,8 +27,8 @@ static const char *const refusal_names[] = {SQLLEX_REFUSALS(REFUSAL_NAME)};
 static void print_records(size_t records)
 {
     for (size_t i = 0; i < records; i++) {
-        const uint32_t *record = list + i * SQLLEX_RECORD_WIDTH;
-        printf("%s\t%" PRIu32 "\t%" PRIu32 "\n", kind_names[record[0]], record[1], record[2]);
+        sqllex_record record = sqllex_record_at(list, i);
+        printf("%s\t%" PRIu32 "\t%" PRIu32 "\n", kind_names[record.kind], record.start, record.length);
     }
 }
 

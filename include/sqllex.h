@@ -71,14 +71,29 @@ typedef struct sqllex_stream {
     uint32_t total;   /* so many bytes were taken */
 } sqllex_stream;
 
+/*
+ * A token of a list, which has these five numbers of each, in this order; sqllex_record_at reads them. Line and column say for people
+ * where the token starts. Both are counted from 1 and from the text's beginning, also where the list starts later. A byte 0A ends a
+ * line, and is itself the last of it; no other byte does. A column counts bytes, not characters.
+ */
+typedef struct sqllex_record {
+    uint32_t kind;
+    uint32_t start;
+    uint32_t length;
+    uint32_t line;   /* 1, and one more for each 0A before the start */
+    uint32_t column; /* 1, and one more for each byte of its line before the start */
+} sqllex_record;
+
 #if defined(__cplusplus) && __cplusplus >= 201103L
 static_assert(sizeof(sqllex_answer) == 48, "the library's answers are six words of 8 bytes");
 static_assert(sizeof(sqllex_given) == 56, "what a stream gives is seven words of 8 bytes");
 static_assert(sizeof(sqllex_stream) == 24, "the library's streams are six words of 4 bytes");
+static_assert(sizeof(sqllex_record) == 20, "the library's records are five words of 4 bytes");
 #elif defined(__STDC_VERSION__) && __STDC_VERSION__ >= 201112L
 _Static_assert(sizeof(sqllex_answer) == 48, "the library's answers are six words of 8 bytes");
 _Static_assert(sizeof(sqllex_given) == 56, "what a stream gives is seven words of 8 bytes");
 _Static_assert(sizeof(sqllex_stream) == 24, "the library's streams are six words of 4 bytes");
+_Static_assert(sizeof(sqllex_record) == 20, "the library's records are five words of 4 bytes");
 #endif
 
 /*
@@ -129,8 +144,8 @@ _Static_assert(sizeof(sqllex_stream) == 24, "the library's streams are six words
 /* The longest text that list and list_from take, in bytes. next and cut take any. */
 #define SQLLEX_LONGEST_TEXT 65535u
 
-/* How many numbers a record of a list has: kind, start, length. Three for each byte of the text are always enough. */
-#define SQLLEX_RECORD_WIDTH 3u
+/* How many numbers a record of a list has, those of sqllex_record. So many for each byte of the text are always enough. */
+#define SQLLEX_RECORD_WIDTH 5u
 
 /* The longest lexeme that a stream takes, and how long its row is, in bytes: such a lexeme and two more. */
 #define SQLLEX_LONGEST_LEXEME 2048u
@@ -388,8 +403,8 @@ extern "C" {
 uint32_t sqllex_next(const uint8_t *text, size_t text_length, size_t offset, uint32_t profile, sqllex_answer *answer);
 
 /*
- * The tokens of a text from an offset on, each as a record in a list: kind, start, length. The list has whole records only, the
- * first at list[0]; the numbers behind the last record stay as they were.
+ * The tokens of a text from an offset on, each as a record in a list: kind, start, length, line, column. The list has whole records
+ * only, record i at list[i * SQLLEX_RECORD_WIDTH] and the four numbers behind it; those behind the last record stay as they were.
  *
  *     status                   value    start        length       next
  *     SQLLEX_END               records  text_length  0            text_length
@@ -400,8 +415,10 @@ uint32_t sqllex_next(const uint8_t *text, size_t text_length, size_t offset, uin
  *     SQLLEX_UNKNOWN_PROFILE   nothing is written
  *
  * SQLLEX_TOO_LONG, for a text of more than SQLLEX_LONGEST_TEXT bytes, comes before any other but SQLLEX_UNKNOWN_PROFILE.
- * SQLLEX_LIST_FULL comes only where a token is left and fewer than three numbers are: take the records out, and call again from
- * `next` with the same list and profile. (A list of fewer than three numbers takes no token: with it this would not end.)
+ * SQLLEX_LIST_FULL comes only where a token is left and fewer than SQLLEX_RECORD_WIDTH numbers are: take the records out, and call
+ * again from `next` with the same list and profile. (A list of fewer numbers than that takes no token: with it this would not end.)
+ *
+ * What lies before the offset is gone through once, for its lines alone: nothing there is lexed or refused.
  */
 uint32_t sqllex_list_from(const uint8_t *text, size_t text_length, size_t offset, uint32_t profile, uint32_t *list,
                           size_t list_length, sqllex_answer *answer);
@@ -412,6 +429,14 @@ uint32_t sqllex_list_from(const uint8_t *text, size_t text_length, size_t offset
  * no profile's.
  */
 uint64_t sqllex_list(const uint8_t *text, size_t text_length, uint32_t profile, uint32_t *list, size_t list_length);
+
+/* Record i of a list that has more than i of them. This is no call of the library. */
+static inline sqllex_record sqllex_record_at(const uint32_t *list, size_t i)
+{
+    const uint32_t *numbers = list + i * SQLLEX_RECORD_WIDTH;
+    sqllex_record record = {numbers[0], numbers[1], numbers[2], numbers[3], numbers[4]};
+    return record;
+}
 
 /*
  * The statement from an offset on, up to and with the semicolon that ends it. Only a semicolon that is a token counts, none inside a

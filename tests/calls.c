@@ -12,7 +12,8 @@
  * PLACE, front or back, says where a text, list, answer, stream, row, buffer, value or count lies in its room between two such pages: at
  * its beginning or at its end. In every mode what a call must leave alone is seen to be as it was: the bytes beside all that is written,
  * the list's numbers behind the records, the row's bytes behind those held, a value or a count that is not set, and the text or part,
- * which cannot be written.
+ * which cannot be written. And the records of every list are seen to lie one behind the other, each with the line and column that the
+ * text's bytes give.
  */
 #define _DEFAULT_SOURCE
 #include <stdio.h>
@@ -25,7 +26,10 @@
 
 #define TEXT_MOST 70000u
 #define ROW_LENGTH SQLLEX_ROW_LENGTH
-#define LIST_MOST (SQLLEX_LONGEST_TEXT * SQLLEX_RECORD_WIDTH + 4)
+#define RECORD_WIDTH SQLLEX_RECORD_WIDTH
+#define SHORT_LISTS 12u /* the program replay makes the lists of fewer numbers than this, */
+#define FREE_BEHIND 4u /* and one with so many behind all records */
+#define LIST_MOST (SQLLEX_LONGEST_TEXT * RECORD_WIDTH + FREE_BEHIND)
 #define BESIDE 64u    /* bytes beside what is lent that are looked at */
 #define OLD_BYTE 0xff /* what all these are before a call */
 #define OLD 4294967295
@@ -143,6 +147,29 @@ static uint32_t call_cut(size_t offset, sqllex_answer *said)
     return status;
 }
 
+/*
+ * The records of a list from an offset on: tokens one behind the other, each with the line and the column of its first byte. These are
+ * counted here byte by byte, from the text's first on.
+ */
+static void look_at_records(size_t offset, const uint32_t *list, size_t records)
+{
+    size_t at = 0, end = offset;
+    uint32_t line = 1, column = 1;
+    require(records == 0 || offset <= text_length, "records from behind the text");
+    for (size_t i = 0; i < records; i++) {
+        sqllex_record record = sqllex_record_at(list, i);
+        require(memcmp(&record, list + i * RECORD_WIDTH, sizeof record) == 0, "sqllex_record_at reads otherwise");
+        require(record.kind < SQLLEX_KINDS_COUNT, "a record with a kind that is none");
+        require(record.start == end && record.length > 0 && record.length <= text_length - end, "a record that lies elsewhere");
+        for (; at < record.start; at++) {
+            line += text[at] == '\n';
+            column = text[at] == '\n' ? 1 : column + 1;
+        }
+        require(record.line == line && record.column == column, "a record with another line or column");
+        end += record.length;
+    }
+}
+
 /* A list from offset 0 is asked of both calls, which must write the same. */
 static uint32_t call_list(size_t offset, size_t length, uint32_t **list, sqllex_answer *said)
 {
@@ -165,8 +192,11 @@ static uint32_t call_list(size_t offset, size_t length, uint32_t **list, sqllex_
         require(records == said->value, "sqllex_list and sqllex_list_from count otherwise");
         require(memcmp(first, *list, size) == 0, "sqllex_list and sqllex_list_from write otherwise");
     }
-    for (size_t i = SQLLEX_RECORD_WIDTH * said->value; i < length; i++)
+    require(said->value <= length / RECORD_WIDTH, "more records than have room");
+    require(status != SQLLEX_LIST_FULL || said->value == length / RECORD_WIDTH, "a full list with room for a record");
+    for (size_t i = RECORD_WIDTH * said->value; i < length; i++)
         require((*list)[i] == OLD, "a number behind the records was written");
+    look_at_records(offset, *list, said->value);
     return status;
 }
 
@@ -385,12 +415,12 @@ static void print_replay(size_t offset)
 {
     size_t tokens = print_walk(offset, true);
     (void)print_walk(offset, true); /* the program replay has this one from a reader, which C has not */
-    size_t enough = text_length > SQLLEX_LONGEST_TEXT ? 0 : tokens * SQLLEX_RECORD_WIDTH;
-    for (size_t length = 0; length < 8; length++)
+    size_t enough = text_length > SQLLEX_LONGEST_TEXT ? 0 : tokens * RECORD_WIDTH;
+    for (size_t length = 0; length < SHORT_LISTS; length++)
         print_list(offset, length);
     print_list(offset, enough > 0 ? enough - 1 : 0);
     print_list(offset, enough);
-    print_list(offset, enough + 4);
+    print_list(offset, enough + FREE_BEHIND);
     print_cut(offset);
 }
 
@@ -563,9 +593,17 @@ static uint32_t *list;
 #define CUT(offset, ...) expect(__LINE__, call_cut(offset, &said), &said, __VA_ARGS__)
 #define LIST(offset, length, ...) expect(__LINE__, call_list(offset, length, &list, &said), &said, __VA_ARGS__)
 
-/* The list of the last LIST is these records; what is behind them LIST has looked at. */
-#define RECORDS(...) \
-    require(memcmp(list, (const uint32_t[]){__VA_ARGS__}, sizeof((const uint32_t[]){__VA_ARGS__})) == 0, "another list: " #__VA_ARGS__)
+/* The list of the last LIST is these records: kind, start, length, line, column. What is behind them LIST has looked at. */
+#define RECORDS(...) expect_records(__LINE__, (const uint32_t[]){__VA_ARGS__}, sizeof((const uint32_t[]){__VA_ARGS__}))
+#define ROOM (6 * RECORD_WIDTH - 1) /* for as many records as any of these lists has, and some numbers */
+
+static void expect_records(int line, const uint32_t *numbers, size_t size)
+{
+    if (said.value * sizeof(sqllex_record) == size && memcmp(list, numbers, size) == 0)
+        return;
+    fprintf(stderr, "calls: line %d: another list\n", line);
+    exit(1);
+}
 
 static void try_next(void)
 {
@@ -612,25 +650,111 @@ static void try_numbers(void)
 
 static void try_list(void)
 {
-    static const uint32_t records[] = {SQLLEX_TK_ID, 0, 1, SQLLEX_TK_SEMI, 1, 1, SQLLEX_TK_ID, 2, 1};
+    static const uint32_t records[] = {SQLLEX_TK_ID, 0, 1, 1, 1, SQLLEX_TK_SEMI, 1, 1, 1, 2, SQLLEX_TK_ID, 2, 1, 1, 3};
+    const size_t all = sizeof records / sizeof *records, tokens = all / RECORD_WIDTH;
     TEXT("a;b");
-    for (size_t length = 0; length < 12; length++) {
-        size_t whole = length < 9 ? length / 3 : 3;
-        if (whole < 3)
+    for (size_t length = 0; length <= all + RECORD_WIDTH; length++) {
+        size_t whole = length < all ? length / RECORD_WIDTH : tokens;
+        if (whole < tokens)
             LIST(0, length, SQLLEX_LIST_FULL, whole, whole, 0, whole);
         else
-            LIST(0, length, SQLLEX_END, 3, 3, 0, 3);
+            LIST(0, length, SQLLEX_END, tokens, 3, 0, 3);
         for (size_t i = 0; i < length; i++)
-            require(list[i] == (i < 3 * whole ? records[i] : OLD), "another list of a;b");
+            require(list[i] == (i < RECORD_WIDTH * whole ? records[i] : OLD), "another list of a;b");
     }
-    LIST(1, 3, SQLLEX_LIST_FULL, 1, 2, 0, 2);
+    LIST(1, RECORD_WIDTH, SQLLEX_LIST_FULL, 1, 2, 0, 2);
+    LIST(2, RECORD_WIDTH - 1, SQLLEX_LIST_FULL, 0, 2, 0, 2);
+    LIST(2, RECORD_WIDTH, SQLLEX_END, 1, 3, 0, 3);
     LIST(3, 0, SQLLEX_END, 0, 3, 0, 3);
-    LIST(4, 9, SQLLEX_OFFSET_PAST_END, 0, 0, 0, 4);
+    LIST(4, ROOM, SQLLEX_OFFSET_PAST_END, 0, 0, 0, 4);
     TEXT("a;!");
-    LIST(0, 6, SQLLEX_EXPECTED_EQUALS_SIGN, 2, 2, 1, 2);
-    LIST(0, 5, SQLLEX_LIST_FULL, 1, 1, 0, 1);
+    LIST(0, 2 * RECORD_WIDTH, SQLLEX_EXPECTED_EQUALS_SIGN, 2, 2, 1, 2);
+    LIST(0, 2 * RECORD_WIDTH - 1, SQLLEX_LIST_FULL, 1, 1, 0, 1);
     TEXT("a\vb c");
-    LIST(0, 3, SQLLEX_UNRECOGNIZED_TOKEN, 1, 1, 2, 3);
+    LIST(0, RECORD_WIDTH, SQLLEX_UNRECOGNIZED_TOKEN, 1, 1, 2, 3);
+}
+
+/* Lines and columns. */
+static void try_lines(void)
+{
+    TEXT("a\nb");
+    LIST(0, ROOM, SQLLEX_END, 3, 3, 0, 3);
+    RECORDS(SQLLEX_TK_ID, 0, 1, 1, 1, SQLLEX_TK_NONE, 1, 1, 1, 2, SQLLEX_TK_ID, 2, 1, 2, 1);
+    LIST(1, ROOM, SQLLEX_END, 2, 3, 0, 3);
+    RECORDS(SQLLEX_TK_NONE, 1, 1, 1, 2, SQLLEX_TK_ID, 2, 1, 2, 1);
+    LIST(2, ROOM, SQLLEX_END, 1, 3, 0, 3);
+    RECORDS(SQLLEX_TK_ID, 2, 1, 2, 1);
+    TEXT("\na");
+    LIST(0, ROOM, SQLLEX_END, 2, 2, 0, 2);
+    RECORDS(SQLLEX_TK_NONE, 0, 1, 1, 1, SQLLEX_TK_ID, 1, 1, 2, 1);
+    TEXT("a\r\nb\r\n\r\nc");
+    LIST(0, ROOM, SQLLEX_END, 5, 9, 0, 9);
+    RECORDS(SQLLEX_TK_ID, 0, 1, 1, 1, SQLLEX_TK_NONE, 1, 2, 1, 2, SQLLEX_TK_ID, 3, 1, 2, 1, SQLLEX_TK_NONE, 4, 4, 2, 2,
+            SQLLEX_TK_ID, 8, 1, 4, 1);
+    LIST(2, RECORD_WIDTH, SQLLEX_LIST_FULL, 1, 3, 0, 3);
+    RECORDS(SQLLEX_TK_NONE, 2, 1, 1, 3);
+    LIST(6, ROOM, SQLLEX_END, 2, 9, 0, 9);
+    RECORDS(SQLLEX_TK_NONE, 6, 2, 3, 1, SQLLEX_TK_ID, 8, 1, 4, 1);
+    TEXT("a\r\fb"); /* no other byte ends a line */
+    LIST(0, ROOM, SQLLEX_END, 3, 4, 0, 4);
+    RECORDS(SQLLEX_TK_ID, 0, 1, 1, 1, SQLLEX_TK_NONE, 1, 2, 1, 2, SQLLEX_TK_ID, 3, 1, 1, 4);
+    TEXT("\xc3\xa9;"); /* a letter of two bytes */
+    LIST(0, ROOM, SQLLEX_END, 2, 3, 0, 3);
+    RECORDS(SQLLEX_TK_ID, 0, 2, 1, 1, SQLLEX_TK_SEMI, 2, 1, 1, 3);
+}
+
+/* Tokens with a 0A in them: a string, names, comments. The list may start inside one. */
+static void try_lines_within(void)
+{
+    TEXT("'x\ny''\n' a");
+    LIST(0, ROOM, SQLLEX_END, 3, 10, 0, 10);
+    RECORDS(SQLLEX_TK_STRING, 0, 8, 1, 1, SQLLEX_TK_NONE, 8, 1, 3, 2, SQLLEX_TK_ID, 9, 1, 3, 3);
+    LIST(3, ROOM, SQLLEX_UNTERMINATED_LITERAL, 3, 7, 3, 7);
+    RECORDS(SQLLEX_TK_ID, 3, 1, 2, 1, SQLLEX_TK_STRING, 4, 2, 2, 2, SQLLEX_TK_NONE, 6, 1, 2, 4);
+    TEXT("\"a\nb\"`\n`c");
+    LIST(0, ROOM, SQLLEX_END, 3, 9, 0, 9);
+    RECORDS(SQLLEX_TK_ID, 0, 5, 1, 1, SQLLEX_TK_ID, 5, 3, 2, 3, SQLLEX_TK_ID, 8, 1, 3, 2);
+    TEXT("/* \n */a");
+    LIST(0, ROOM, SQLLEX_END, 2, 8, 0, 8);
+    RECORDS(SQLLEX_TK_NONE, 0, 7, 1, 1, SQLLEX_TK_ID, 7, 1, 2, 4);
+    LIST(5, ROOM, SQLLEX_END, 3, 8, 0, 8);
+    RECORDS(SQLLEX_TK_STAR, 5, 1, 2, 2, SQLLEX_TK_SLASH, 6, 1, 2, 3, SQLLEX_TK_ID, 7, 1, 2, 4);
+    TEXT("-- a\n-- b\nc");
+    LIST(0, ROOM, SQLLEX_END, 3, 11, 0, 11);
+    RECORDS(SQLLEX_TK_NONE, 0, 5, 1, 1, SQLLEX_TK_NONE, 5, 5, 2, 1, SQLLEX_TK_ID, 10, 1, 3, 1);
+    TEXT("a\n 'b"); /* a refused lexeme has no record */
+    LIST(0, ROOM, SQLLEX_UNTERMINATED_LITERAL, 2, 3, 2, 3);
+    RECORDS(SQLLEX_TK_ID, 0, 1, 1, 1, SQLLEX_TK_NONE, 1, 2, 1, 2);
+}
+
+/* From an offset on the list is filled again and again: the records are those of the tokens that sqllex_next gives, up to the same end. */
+static void try_filled_again(size_t offset, size_t length)
+{
+    sqllex_answer token;
+    uint32_t status;
+    do {
+        status = call_list(offset, length, &list, &said);
+        for (size_t i = 0; i < said.value; i++) {
+            sqllex_record record = sqllex_record_at(list, i);
+            require(call_next(offset, &token) == SQLLEX_TOKEN, "a record of what is no token");
+            require(token.value == record.kind && token.length == record.length, "a record of another token");
+            offset = token.next;
+        }
+    } while (status == SQLLEX_LIST_FULL);
+    require(call_next(offset, &token) == status, "a list that ends otherwise than its tokens");
+    require(token.start == said.start && token.length == said.length && token.next == said.next, "a list that ends elsewhere");
+}
+
+/* Every offset of a text of several lines, past its end too, and lists of every length up to some records. */
+static void try_offsets(void)
+{
+    TEXT("\n-- a\r\nSELECT 'b\n''\nc', \"d\ne\"/* f\n\n */ ,\n`g\n`;[h\ni]\r\n1.5 x'0A'\n\n$a(b) @c\n\n!=\xc3\xa9\n ");
+    for (size_t offset = 0; offset <= text_length + 1; offset++) {
+        for (size_t length = 0; length <= ROOM; length++)
+            (void)call_list(offset, length, &list, &said);
+        for (size_t length = RECORD_WIDTH; length <= ROOM; length++)
+            try_filled_again(offset, length);
+    }
 }
 
 static void try_cut(void)
@@ -668,13 +792,14 @@ static void try_long(void)
     static unsigned char bytes[TEXT_MOST];
     memset(bytes, ';', sizeof bytes);
     set_text(bytes, SQLLEX_LONGEST_TEXT);
-    LIST(0, SQLLEX_LONGEST_TEXT * 3, SQLLEX_END, SQLLEX_LONGEST_TEXT, SQLLEX_LONGEST_TEXT, 0, SQLLEX_LONGEST_TEXT);
-    LIST(0, SQLLEX_LONGEST_TEXT * 3 - 1, SQLLEX_LIST_FULL, SQLLEX_LONGEST_TEXT - 1, SQLLEX_LONGEST_TEXT - 1, 0, SQLLEX_LONGEST_TEXT - 1);
+    LIST(0, SQLLEX_LONGEST_TEXT * RECORD_WIDTH, SQLLEX_END, SQLLEX_LONGEST_TEXT, SQLLEX_LONGEST_TEXT, 0, SQLLEX_LONGEST_TEXT);
+    LIST(0, SQLLEX_LONGEST_TEXT * RECORD_WIDTH - 1, SQLLEX_LIST_FULL, SQLLEX_LONGEST_TEXT - 1, SQLLEX_LONGEST_TEXT - 1, 0,
+         SQLLEX_LONGEST_TEXT - 1);
     set_text(bytes, SQLLEX_LONGEST_TEXT + 1);
-    LIST(0, 9, SQLLEX_TOO_LONG, 0, 0, 0, 0);
+    LIST(0, ROOM, SQLLEX_TOO_LONG, 0, 0, 0, 0);
     require(list[0] == OLD, "a list of a text that is too long was written");
     LIST(7, 0, SQLLEX_TOO_LONG, 0, 0, 0, 7);
-    LIST(SIZE_MAX, 9, SQLLEX_TOO_LONG, 0, 0, 0, SIZE_MAX);
+    LIST(SIZE_MAX, ROOM, SQLLEX_TOO_LONG, 0, 0, 0, SIZE_MAX);
     memset(bytes, ' ', sizeof bytes);
     set_text(bytes, sizeof bytes);
     NEXT(0, SQLLEX_TOKEN, SQLLEX_TK_NONE, 0, TEXT_MOST, TEXT_MOST);
@@ -684,6 +809,34 @@ static void try_long(void)
         bytes[i] = i % 2 == 0 ? '9' : '_';
     set_text(bytes, sizeof bytes - 1);
     NUMBER(0, SQLLEX_TK_INTEGER, 0, TEXT_MOST - 1, TEXT_MOST - 1, TEXT_MOST / 2, TEXT_MOST / 2 - 1);
+}
+
+/* The last records of such texts: of all 0A, of one line, of a 0A before every other token. */
+static void try_long_lines(void)
+{
+    static unsigned char bytes[SQLLEX_LONGEST_TEXT];
+    const size_t enough = SQLLEX_LONGEST_TEXT * RECORD_WIDTH;
+    memset(bytes, '\n', sizeof bytes);
+    set_text(bytes, sizeof bytes);
+    LIST(0, ROOM, SQLLEX_END, 1, 65535, 0, 65535);
+    RECORDS(SQLLEX_TK_NONE, 0, 65535, 1, 1);
+    LIST(65534, ROOM, SQLLEX_END, 1, 65535, 0, 65535);
+    RECORDS(SQLLEX_TK_NONE, 65534, 1, 65535, 1);
+    memset(bytes, ';', sizeof bytes);
+    set_text(bytes, sizeof bytes);
+    LIST(65534, ROOM, SQLLEX_END, 1, 65535, 0, 65535);
+    RECORDS(SQLLEX_TK_SEMI, 65534, 1, 1, 65535);
+    LIST(0, enough, SQLLEX_END, 65535, 65535, 0, 65535);
+    sqllex_record last = sqllex_record_at(list, 65534);
+    require(last.start == 65534 && last.line == 1 && last.column == 65535, "another last record of one line");
+    for (size_t i = 0; i < sizeof bytes; i += 2)
+        bytes[i] = '\n';
+    set_text(bytes, sizeof bytes);
+    LIST(65533, ROOM, SQLLEX_END, 2, 65535, 0, 65535);
+    RECORDS(SQLLEX_TK_SEMI, 65533, 1, 32768, 1, SQLLEX_TK_NONE, 65534, 1, 32768, 2);
+    LIST(0, enough, SQLLEX_END, 65535, 65535, 0, 65535);
+    last = sqllex_record_at(list, 65533);
+    require(last.start == 65533 && last.line == 32768 && last.column == 1, "another last record of many lines");
 }
 
 static void try_word(const char *word, uint32_t kind, bool quotable)
@@ -726,8 +879,8 @@ static void try_statement(void)
     TEXT("SELECT 1;");
     NEXT(0, SQLLEX_TOKEN, SQLLEX_TK_SELECT, 0, 6, 6);
     NUMBER(7, SQLLEX_TK_INTEGER, 7, 1, 8, 1, 0);
-    LIST(0, 15, SQLLEX_END, 4, 9, 0, 9);
-    RECORDS(SQLLEX_TK_SELECT, 0, 6, SQLLEX_TK_NONE, 6, 1, SQLLEX_TK_INTEGER, 7, 1, SQLLEX_TK_SEMI, 8, 1);
+    LIST(0, ROOM, SQLLEX_END, 4, 9, 0, 9);
+    RECORDS(SQLLEX_TK_SELECT, 0, 6, 1, 1, SQLLEX_TK_NONE, 6, 1, 1, 7, SQLLEX_TK_INTEGER, 7, 1, 1, 8, SQLLEX_TK_SEMI, 8, 1, 1, 9);
     CUT(0, SQLLEX_CUT, 1, 0, 9, 9);
 }
 
@@ -739,32 +892,35 @@ static void try_turso(void)
 {
     TEXT(":2");
     NEXT(0, SQLLEX_TOKEN, SQLLEX_TK_COLON, 0, 1, 1);
-    LIST(0, 10, SQLLEX_END, 2, 2, 0, 2);
-    RECORDS(SQLLEX_TK_COLON, 0, 1, SQLLEX_TK_INTEGER, 1, 1);
+    LIST(0, ROOM, SQLLEX_END, 2, 2, 0, 2);
+    RECORDS(SQLLEX_TK_COLON, 0, 1, 1, 1, SQLLEX_TK_INTEGER, 1, 1, 1, 2);
     TEXT(":2(;)");
     CUT(0, SQLLEX_CUT, 1, 0, 4, 4);
     TEXT(":");
     CUT(0, SQLLEX_OPEN, 1, 0, 1, 1);
     TEXT("[a]");
     NEXT(0, SQLLEX_TOKEN, SQLLEX_TK_LBRACKET, 0, 1, 1);
-    LIST(0, 10, SQLLEX_END, 3, 3, 0, 3);
-    RECORDS(SQLLEX_TK_LBRACKET, 0, 1, SQLLEX_TK_ID, 1, 1, SQLLEX_TK_RBRACKET, 2, 1);
+    LIST(0, ROOM, SQLLEX_END, 3, 3, 0, 3);
+    RECORDS(SQLLEX_TK_LBRACKET, 0, 1, 1, 1, SQLLEX_TK_ID, 1, 1, 1, 2, SQLLEX_TK_RBRACKET, 2, 1, 1, 3);
+    TEXT("[\n];");
+    LIST(0, ROOM, SQLLEX_END, 4, 4, 0, 4);
+    RECORDS(SQLLEX_TK_LBRACKET, 0, 1, 1, 1, SQLLEX_TK_NONE, 1, 1, 1, 2, SQLLEX_TK_RBRACKET, 2, 1, 2, 1, SQLLEX_TK_SEMI, 3, 1, 2, 2);
     TEXT("[;]");
     CUT(0, SQLLEX_CUT, 1, 0, 2, 2);
     TEXT("&&");
     NEXT(0, SQLLEX_TOKEN, SQLLEX_TK_ARRAY_OVERLAP, 0, 2, 2);
-    LIST(0, 10, SQLLEX_END, 1, 2, 0, 2);
-    RECORDS(SQLLEX_TK_ARRAY_OVERLAP, 0, 2);
+    LIST(0, ROOM, SQLLEX_END, 1, 2, 0, 2);
+    RECORDS(SQLLEX_TK_ARRAY_OVERLAP, 0, 2, 1, 1);
     CUT(0, SQLLEX_OPEN, 1, 0, 2, 2);
     TEXT("@>");
     NEXT(0, SQLLEX_TOKEN, SQLLEX_TK_ARRAY_CONTAINS, 0, 2, 2);
-    LIST(0, 10, SQLLEX_END, 1, 2, 0, 2);
-    RECORDS(SQLLEX_TK_ARRAY_CONTAINS, 0, 2);
+    LIST(0, ROOM, SQLLEX_END, 1, 2, 0, 2);
+    RECORDS(SQLLEX_TK_ARRAY_CONTAINS, 0, 2, 1, 1);
     CUT(0, SQLLEX_OPEN, 1, 0, 2, 2);
     TEXT("1e_5");
     NUMBER(0, SQLLEX_TK_FLOAT, 0, 4, 4, 2, 1);
-    LIST(0, 10, SQLLEX_END, 1, 4, 0, 4);
-    RECORDS(SQLLEX_TK_FLOAT, 0, 4);
+    LIST(0, ROOM, SQLLEX_END, 1, 4, 0, 4);
+    RECORDS(SQLLEX_TK_FLOAT, 0, 4, 1, 1);
     CUT(0, SQLLEX_OPEN, 1, 0, 4, 4);
 }
 
@@ -772,34 +928,37 @@ static void try_sqlite(void)
 {
     TEXT(":2");
     NEXT(0, SQLLEX_TOKEN, SQLLEX_TK_VARIABLE, 0, 2, 2);
-    LIST(0, 10, SQLLEX_END, 1, 2, 0, 2);
-    RECORDS(SQLLEX_TK_VARIABLE, 0, 2);
+    LIST(0, ROOM, SQLLEX_END, 1, 2, 0, 2);
+    RECORDS(SQLLEX_TK_VARIABLE, 0, 2, 1, 1);
     TEXT(":2(;)");
     CUT(0, SQLLEX_OPEN, 1, 0, 5, 5);
     TEXT(":");
     CUT(0, SQLLEX_UNRECOGNIZED_TOKEN, 0, 0, 1, 0);
     TEXT("[a]");
     NEXT(0, SQLLEX_TOKEN, SQLLEX_TK_ID, 0, 3, 3);
-    LIST(0, 10, SQLLEX_END, 1, 3, 0, 3);
-    RECORDS(SQLLEX_TK_ID, 0, 3);
+    LIST(0, ROOM, SQLLEX_END, 1, 3, 0, 3);
+    RECORDS(SQLLEX_TK_ID, 0, 3, 1, 1);
+    TEXT("[\n];");
+    LIST(0, ROOM, SQLLEX_END, 2, 4, 0, 4);
+    RECORDS(SQLLEX_TK_ID, 0, 3, 1, 1, SQLLEX_TK_SEMI, 3, 1, 2, 2);
     TEXT("[;]");
     CUT(0, SQLLEX_OPEN, 1, 0, 3, 3);
     TEXT("&&");
     NEXT(0, SQLLEX_TOKEN, SQLLEX_TK_BITAND, 0, 1, 1);
-    LIST(0, 10, SQLLEX_END, 2, 2, 0, 2);
-    RECORDS(SQLLEX_TK_BITAND, 0, 1, SQLLEX_TK_BITAND, 1, 1);
+    LIST(0, ROOM, SQLLEX_END, 2, 2, 0, 2);
+    RECORDS(SQLLEX_TK_BITAND, 0, 1, 1, 1, SQLLEX_TK_BITAND, 1, 1, 1, 2);
     CUT(0, SQLLEX_OPEN, 1, 0, 2, 2);
     TEXT("@>");
     NEXT(0, SQLLEX_UNRECOGNIZED_TOKEN, 0, 0, 1, 0);
-    LIST(0, 10, SQLLEX_UNRECOGNIZED_TOKEN, 0, 0, 1, 0);
+    LIST(0, ROOM, SQLLEX_UNRECOGNIZED_TOKEN, 0, 0, 1, 0);
     CUT(0, SQLLEX_UNRECOGNIZED_TOKEN, 0, 0, 1, 0);
     TEXT("1e_5");
     NEXT(0, SQLLEX_BAD_EXPONENT_PART, 0, 1, 1, 0);
-    LIST(0, 10, SQLLEX_BAD_EXPONENT_PART, 0, 1, 1, 0);
+    LIST(0, ROOM, SQLLEX_BAD_EXPONENT_PART, 0, 1, 1, 0);
     CUT(0, SQLLEX_BAD_EXPONENT_PART, 0, 1, 1, 0);
     TEXT("a [b");
     NEXT(2, SQLLEX_UNTERMINATED_LITERAL, 0, 2, 2, 2);
-    LIST(0, 10, SQLLEX_UNTERMINATED_LITERAL, 2, 2, 2, 2);
+    LIST(0, ROOM, SQLLEX_UNTERMINATED_LITERAL, 2, 2, 2, 2);
     CUT(0, SQLLEX_UNTERMINATED_LITERAL, 0, 2, 2, 0);
 }
 
@@ -850,7 +1009,7 @@ static void expect_unknown(uint32_t number, size_t offset, size_t length)
 static void try_unknown(void)
 {
     static const uint32_t numbers[] = {2, 3, 99, 0x80000000, 0xffffffff};
-    static const size_t lengths[] = {0, 1, 2, 3, 7, 30};
+    static const size_t lengths[] = {0, 1, RECORD_WIDTH - 1, RECORD_WIDTH, RECORD_WIDTH + 1, 30};
     const size_t offsets[] = {0, 1, text_length, text_length + 1, SIZE_MAX};
     mprotect(text_room.bytes, text_room.size, PROT_NONE);
     for (size_t n = 0; n < sizeof numbers / sizeof *numbers; n++)
@@ -1257,6 +1416,20 @@ static void draw_bytes(uint8_t *bytes, size_t length)
         if (!runs || draw(600) == 0)
             byte = draw(50) == 0 ? (uint8_t)draw(256) : (uint8_t)common[draw(sizeof common - 1)];
         bytes[i] = byte;
+    }
+}
+
+/* Lists of texts that are drawn, with many lines, from any offset on. */
+static void try_drawn_lists(void)
+{
+    static uint8_t bytes[3000];
+    for (int round = 0; round < 4000; round++) {
+        size_t length = draw(4) == 0 ? draw(sizeof bytes) : draw(60);
+        draw_bytes(bytes, length);
+        for (size_t i = draw(20); i < length; i += 1 + draw(20))
+            bytes[i] = '\n';
+        set_text(bytes, length);
+        try_filled_again(draw((uint32_t)length + 2), RECORD_WIDTH + draw(ROOM));
     }
 }
 
@@ -1997,8 +2170,13 @@ static void try_both(void)
     try_next();
     try_numbers();
     try_list();
+    try_lines();
+    try_lines_within();
+    try_offsets();
     try_cut();
     try_long();
+    try_long_lines();
+    try_drawn_lists();
     try_null();
     try_streams();
     try_literals();
