@@ -15,6 +15,9 @@ KEPT = OUT / "unproved" if UNPROVED else OUT
 ARCHIVE = ROOT / "target/staticlib/libcapi.a"
 X86_TARGET, UNPACKED = "x86_64-unknown-linux-gnu", OUT / "rustc/usr"  # what bench/setup unpacks
 STEP = "steps::step::step"
+# How many numbers are written of a token: kind, start and length, and in a list also line and column, which bench's own loops have not.
+WIDTH, OWN_WIDTH = 5, 3
+OWN_LOOPS = "steps_walk", "next_walk", "stream_parts"
 REAL_MEMCHR = pathlib.Path("/usr/share/cargo/registry/memchr-2.5.0/src/lib.rs")
 # bench/setup fetches the source, which is compiled for both machines; Debian's library is x86-64 code.
 SQLITE_SOURCE, SQLITE_LIBRARY = OUT / "sqlite", pathlib.Path("/usr/lib/x86_64-linux-gnu/libsqlite3.a")
@@ -181,10 +184,15 @@ LEXERS = {  # the symbol of List, what is linked, flags of the measuring program
 }
 
 
+def width(lexer):
+    return OWN_WIDTH if LEXERS[lexer][0] in OWN_LOOPS else WIDTH
+
+
 @functools.cache
 def program(machine, lexer):
     """The measuring program with one lexer."""
     symbol, parts, flags = LEXERS[lexer]
     output = OUT / f"{lexer}.{machine.name}"
-    compile_c(machine, output, f"-DLIST={symbol}", *flags, HERE / "program.c", *machine.extra, *parts(machine))
+    flags = [f"-DLIST={symbol}", f"-DRECORD_WIDTH={width(lexer)}", *flags]
+    compile_c(machine, output, *flags, HERE / "program.c", *machine.extra, *parts(machine))
     return output

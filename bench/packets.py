@@ -1,6 +1,6 @@
 """Lexing packet by packet: a text offered to a stream in parts, and Next walked over it to set beside it."""
 from machines import M4, X86
-from speed import length, records, total
+from speed import length, records, tokens, total
 
 SIZES = 1, 20, 244
 # None has a lexeme of more than a stream takes; the last three are its dearest.
@@ -21,9 +21,9 @@ def same_tokens():
     for machine in X86, M4:
         for name in TEXTS:
             for lexer in ["next", *(f"parts of {size}" for size in SIZES)]:
-                if records(machine, lexer, name) != records(machine, "List", name):
+                if tokens(machine, lexer, name) != tokens(machine, "List", name):
                     raise SystemExit(f"bench: FAIL: {lexer} and List found different tokens in the text {name}")
-        if records(machine, "parts of 20:sqlite", "sync") != records(machine, "List", "sync"):
+        if tokens(machine, "parts of 20:sqlite", "sync") != tokens(machine, "List", "sync"):
             raise SystemExit("bench: FAIL: parts of 20 under sqlite and List found different tokens in the text sync")
     print(f"offered in parts of {', '.join(map(str, SIZES))} bytes, {len(TEXTS)} texts gave List's tokens, on both machines")
 

@@ -3,7 +3,7 @@
  *                          the cut of all its statements; with -DREADS, or -DWRITES, its literals read, or read and written again
  *   program FILE dump      the records, a line each
  *   program FILE stack     bytes of stack that calls really used; with -DALL_CALLS also those of next and cut
- * A length is 64 bits wide on both machines, since the library has it so. */
+ * A length is 64 bits wide on both machines, since the library has it so. A lexer writes -DRECORD_WIDTH=.. numbers of a token. */
 #include <stdint.h>
 #include <stdio.h>
 #include <stdlib.h>
@@ -11,13 +11,15 @@
 
 #define NAME(symbol) QUOTED(symbol)
 #define QUOTED(word) #word
-enum { TEXT = 65535, NUMBERS = 3 * TEXT, LANE = 65536 };
+enum { TEXT = 65535, NUMBERS = RECORD_WIDTH * TEXT, LANE = 65536 };
+enum { KIND, START, LENGTH }; /* the first of a record's numbers */
 
 typedef uint64_t list_function(const uint8_t *text, uint64_t length, uint32_t *list, uint64_t numbers);
 typedef uint32_t place_function(const uint8_t *text, uint64_t length, uint64_t offset, uint32_t profile, uint64_t *answer);
 place_function sqllex_next, sqllex_cut;
 enum { CUT = 101 };
 static uint64_t answer[6];
+static uint32_t *record(uint32_t *l, uint64_t i) { return l + RECORD_WIDTH * i; }
 #ifdef CUTS
 /* In List's place the cut, from statement to statement. */
 static uint64_t under_profile(const uint8_t *t, uint64_t n, uint32_t *l, uint64_t c)
@@ -61,8 +63,8 @@ static uint64_t literals(const uint8_t *t, uint64_t n, uint32_t *l, uint64_t c)
 {
     uint64_t records = sqllex_list(t, n, PROFILE, l, c), count = 0;
     for (uint64_t i = 0; i < records; i++)
-        if (l[3 * i] == STRING || l[3 * i] == INTEGER || l[3 * i] == BLOB)
-            memmove(l + 3 * count++, l + 3 * i, 3 * sizeof *l);
+        if (record(l, i)[KIND] == STRING || record(l, i)[KIND] == INTEGER || record(l, i)[KIND] == BLOB)
+            memmove(record(l, count++), record(l, i), RECORD_WIDTH * sizeof *l);
     return count;
 }
 /* How many were read, and written. */
@@ -73,7 +75,7 @@ static uint64_t under_profile(const uint8_t *t, uint64_t n, uint32_t *l, uint64_
     if (!records)
         records = literals(t, n, l, c);
     for (uint64_t i = 0; i < records; i++)
-        if (read(t, n, l[3 * i + 1], l[3 * i + 2], l[3 * i]) == DONE && write(l[3 * i]) == DONE)
+        if (read(t, n, record(l, i)[START], record(l, i)[LENGTH], record(l, i)[KIND]) == DONE && write(record(l, i)[KIND]) == DONE)
             count++;
     return count;
 }
@@ -151,7 +153,7 @@ static void other_stacks(void)
 {
     uint64_t records = under_profile(text, length, list, NUMBERS);
     for (place_count = 0; place_count < records; place_count++)
-        places[place_count] = list[3 * place_count + 1];
+        places[place_count] = record(list, place_count)[START];
     places[place_count++] = length;
     printf("sqllex_next %u\n", place_stack(sqllex_next)); /* at each token and at the end */
     place_count = 0;
@@ -174,8 +176,8 @@ int main(int argc, char **argv)
         other_stacks();
     } else if (!strcmp(argv[2], "dump")) {
         uint64_t records = under_profile(text, length, list, NUMBERS);
-        for (uint64_t i = 0; i < records; i++)
-            printf("%u %u %u\n", (unsigned)list[3 * i], (unsigned)list[3 * i + 1], (unsigned)list[3 * i + 2]);
+        for (uint64_t i = 0; i < RECORD_WIDTH * records; i++)
+            printf("%u%c", (unsigned)list[i], (i + 1) % RECORD_WIDTH ? ' ' : '\n');
     } else {
         for (int i = atoi(argv[2]); i > 0; i--)
             under_profile(text, length, list, NUMBERS);

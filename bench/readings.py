@@ -4,11 +4,11 @@ import functools
 import graph
 from lexers import STEP, program, walk
 from machines import M4, X86, run
-from speed import KINDS_OF_TEXT, cost, length, records, total
+from speed import KINDS_OF_TEXT, cost, length, tokens, total
 
 
 def starts_and_lengths(machine, lexer, name):
-    return [line.split()[1:] for line in records(machine, lexer, name)]
+    return [token[1:] for token in tokens(machine, lexer, name)]
 
 
 def same_lexemes():

@@ -14,7 +14,8 @@ from speed import cuts, growth, instructions, length, profile, same_lists, total
 
 MOST_STACK = 768  # bytes
 MOST_LOOKUP = 2400  # bytes
-MOST_INSTRUCTIONS = {X86: 50, M4: 60}  # a byte
+MOST_INSTRUCTIONS = {X86: 53.3, M4: 66}  # a byte
+MOST_OF_STRING = 9  # instructions a byte
 MOST_GROWTH = 1  # percent from linear
 MOST_STEP = 30  # instructions
 MOST_STEPS_CODE = 2600  # bytes
@@ -61,6 +62,10 @@ def try_test(what, measure, most):
         return True
 
 
+def a_byte(machine, lexer, name):
+    return round(total(machine, lexer, name) / length(name), 2)
+
+
 def main():
     part("Versions", versions)
     part("The lists", same_lists)
@@ -92,8 +97,10 @@ def main():
     good &= test("the lookup of a word with its tables, in bytes, Cortex-M4", lookup, MOST_LOOKUP)
     for machine, most in MOST_INSTRUCTIONS.items():
         for lexer in ours:
-            a_byte = lambda: round(total(machine, lexer, "sync") / length("sync"), 2)
-            good &= try_test(f"{lexer}, instructions a byte of the text sync, {machine.name}", a_byte, most)
+            good &= try_test(f"{lexer}, instructions a byte of the text sync, {machine.name}", lambda: a_byte(machine, lexer, "sync"), most)
+    for lexer in ours:
+        what = f"{lexer}, instructions a byte of one string of {length('string'):,} bytes, x86-64"
+        good &= try_test(what, lambda: a_byte(X86, lexer, "string"), MOST_OF_STRING)
     good &= try_test("a step, instructions as a function of its own, text sync, x86-64", lambda: a_step(X86), MOST_STEP)
     good &= try_test("the walk by step, bytes of code, Cortex-M4", lambda: code(M4), MOST_STEPS_CODE)
     for size, most in MOST_ABOVE_NEXT.items():

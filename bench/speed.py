@@ -1,8 +1,9 @@
 """Instructions: of the three lexers a byte, of List by function, and how List grows."""
+import bisect
 import functools
 import re
 
-from lexers import program
+from lexers import OWN_WIDTH, WIDTH, program, width
 from machines import M4, OUT, ROOT, X86, Missing, one_pass, output_of, run
 
 KINDS_OF_TEXT = "sync", "keywords", "names", "floats", "operators", "string"
@@ -27,13 +28,34 @@ def total(machine, lexer, name):
 
 
 @functools.cache
+def newlines(name):
+    """Where the text has a 0A."""
+    return [at for at, byte in enumerate(text(name).read_bytes()) if byte == 0x0A]
+
+
+def place(name, start):
+    """Line and column, by the text alone."""
+    before = bisect.bisect_left(newlines(name), start)
+    return before + 1, start - (newlines(name)[before - 1] if before else -1)
+
+
+@functools.cache
 def records(machine, lexer, name):
-    """The list's lines. It must come to the text's end: a lexer that stops early would look cheap."""
+    """The list's lines. It must come to the text's end, and have the right places: a lexer that stops early would look cheap, and so would one
+    that counts no lines."""
     lines = output_of(machine, program(machine, lexer), text(name), "dump").splitlines()
-    _, start, size = map(int, lines[-1].split())
+    found = [[int(number) for number in line.split()] for line in lines]
+    _, start, size = found[-1][:OWN_WIDTH]
     if start + size != length(name):
         raise SystemExit(f"bench: FAIL: {lexer} stopped at {start + size} in the text {name}")
+    if width(lexer) == WIDTH and any((line, column) != place(name, start) for _, start, _, line, column in found):
+        raise SystemExit(f"bench: FAIL: {lexer} wrote another line or column of the text {name}")
     return lines
+
+
+def tokens(machine, lexer, name):
+    """Kind, start and length of each record."""
+    return [line.split()[:OWN_WIDTH] for line in records(machine, lexer, name)]
 
 
 def with_names(lines, names):
@@ -41,7 +63,7 @@ def with_names(lines, names):
 
 
 def same_lists():
-    """List and the Rust: kinds by name, starts and lengths. (SQLite's kinds are its own, and it ends a comment before the newline.)"""
+    """List and the Rust: kinds by name, and all other numbers. (SQLite's kinds are its own, and it ends a comment before the newline.)"""
     ours = {int(n): name for n, name in re.findall(r"(?m)^\| (\d+) \| (TK_\w+) \|", (ROOT / "docs/KINDS.md").read_text())}
     rusts = {int(n): name for name, n in re.findall(r"(TK_\w+) = (\d+),", (ROOT / "oracle/turso_parser/src/token.rs").read_text())}
     for name in KINDS_OF_TEXT:
@@ -49,7 +71,8 @@ def same_lists():
             raise SystemExit(f"bench: FAIL: List and the Rust wrote different records of the text {name}")
         if records(X86, "List:sqlite", name) != records(X86, "List", name):
             raise SystemExit(f"bench: FAIL: List wrote different records of the text {name} under its two profiles, which read it alike")
-    print(f"List, under both profiles, and the Rust wrote the same records of {len(KINDS_OF_TEXT)} texts: kinds by name, starts, lengths")
+    print(f"List, under both profiles, and the Rust wrote the same records of {len(KINDS_OF_TEXT)} texts: kinds by name, starts, lengths, lines, "
+          "columns")
 
 
 def can_build(machine, lexer):
