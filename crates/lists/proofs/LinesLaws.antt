@@ -1,25 +1,23 @@
 -- The record of a token and the line behind it, of whatever Next gives. Assumes nothing.
-use Prim.Native.Nat.{ℕ, zero, suc, _+_, _-_, _≤_, _<_}
+use Prim.Native.Nat.{ℕ, zero, suc, _+_, _≤_, _<_}
 use native.Mathlib.Omega.{arith}
 use native.Mathlib.Nat.{suc-add}
 use mathlib.Core.Path.{_≡_, refl, sym, _∙_, ap}
-use mathlib.Core.Bool.{Bool, true, false, cond, not}
+use mathlib.Core.Bool.{true, false}
 use mathlib.Core.List.{List, [], _∷_}
 use lib.Dec.{eqb}
 use lib.ListN.{length, take, drop, getD}
 use lib.Seq.{slice}
 use borrow.Author.Tests.{eq-eqb, ne-eqb, eqb-true, eqb-false, not-true}
 use Rattle.keywords.proofs.Logic.{split}
-use Rattle.records.specs.declared.Record.{Record}
 use Rattle.places.specs.declared.Line.{Line}
-use Rattle.places.specs.Places.{newline, newlines, lineAt, columnAt}
-use Rattle.places.specs.Lines.{most, lineOver, lineOf}
+use Rattle.places.specs.Places.{newline, newlines, lineAt}
+use Rattle.places.specs.Lines.{lineOver, lineOf}
 use Rattle.places.proofs.LineLaws.{over-clear}
 use Rattle.places.proofs.Theorems.{goes-along, column-of}
 use Rattle.grammar.specs.Answers.{token}
 use Rattle.grammar.specs.Longest.{Source, Next}
 use Rattle.grammar.proofs.Tokens.{told}
-use Rattle.lists.specs.Walk.{Legal}
 use Rattle.lists.specs.Lists.{recordOf, longestText}
 use Rattle.lists.specs.Lines.{recordOn, hasNoNewline, isClear, lineBehind}
 use Rattle.lists.proofs.WalkLaws.{legal}

@@ -1,7 +1,7 @@
 -- For readers. `read-written`: records that were written are read back. `written-read`: what is read, and what is left over, are the
 -- numbers again. `many`, `left`: how many records a list has, and how many numbers are in none. `front-read`: records at the front of a
 -- list are read first. `put-unique`: the contract of `put` leaves one answer and one list. Assumes nothing.
-use Prim.Native.Nat.{ℕ, suc, _+_, _*_, _/_, _%_, _<_}
+use Prim.Native.Nat.{ℕ, suc, _*_, _/_, _%_, _<_}
 use native.Mathlib.Omega.{arith}
 use mathlib.Core.Path.{_≡_, refl, sym, _∙_, ap}
 use mathlib.Core.Bool.{Bool}

@@ -2,7 +2,7 @@
 -- the place reached. Assumes nothing.
 use Prim.Native.Nat.{_-_, _≤_}
 use native.Mathlib.Omega.{arith}
-use mathlib.Core.Path.{subst, refl, sym, _∙_, ap}
+use mathlib.Core.Path.{subst, refl, _∙_, ap}
 use lib.ListN.{length}
 use borrow.Author.Needs.{needs}
 use borrow.Author.Tests.{not-true, not-false}
