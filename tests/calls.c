@@ -27,8 +27,8 @@
 #define TEXT_MOST 70000u
 #define ROW_LENGTH SQLLEX_ROW_LENGTH
 #define RECORD_WIDTH SQLLEX_RECORD_WIDTH
-#define SHORT_LISTS 12u /* the program replay makes the lists of fewer numbers than this, */
-#define FREE_BEHIND 4u  /* and one with so many behind all records */
+#define SHORT_LISTS (2 * RECORD_WIDTH + 2) /* the program replay makes the lists of fewer numbers than this, */
+#define FREE_BEHIND 4u                     /* and one with so many behind all records */
 #define LIST_MOST (SQLLEX_LONGEST_TEXT * RECORD_WIDTH + FREE_BEHIND)
 #define BESIDE 64u    /* bytes beside what is lent that are looked at */
 #define OLD_BYTE 0xff /* what all these are before a call */

@@ -16,6 +16,9 @@ use records::WIDTH;
 ghost use Prim.Native.Nat.{_≤_};
 ghost use Rattle.rows.specs.Out.{Within};
 
+// Lists of fewer numbers than these have no record, one or two, and some numbers over.
+const FEW: usize = 2 * WIDTH + 2;
+
 pub fn put_replay(
     out: &mut [u8],
     at: usize,
@@ -34,7 +37,6 @@ pub fn put_replay(
     put_cut_block(out, near, text, offset, profile)
 }
 
-// Lists of 0 to 11 numbers: of no record, of one and of two.
 fn put_small(
     out: &mut [u8],
     at: usize,
@@ -47,7 +49,7 @@ fn put_small(
 {
     let mut end = put_list_block(out, at, text, offset, profile, numbers, 0);
     let mut n = 1;
-    while n < 12 {
+    while n < FEW {
         end = put_list_block(out, end, text, offset, profile, numbers, n);
         n += 1;
     }
