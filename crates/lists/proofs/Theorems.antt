@@ -38,7 +38,7 @@ use Rattle.lists.specs.Lists.{recordsOf, HasRoom, listAnswer, longestTex
 use Rattle.lists.specs.Cuts.{CutAnswer, cut, opened, ended, refused, kindsOf, Within, someNotNone, cutAnswer, Cutting, valuesOf, Cuts}
 use Rattle.lists.specs.Gapless.{Follow, Each, RunEnds, Ends, Gapless}
 use Rattle.lists.proofs.WalkLaws.{legal, is-legal, refusal-no-token, known, passes-ahead, walk-one, run}
-use Rattle.lists.proofs.ListLaws.{records-many}
+use Rattle.lists.proofs.KeptLaws.{records-many}
 use Rattle.lists.proofs.CutLaws.{kinds-append}
 use Rattle.lists.proofs.GaplessLaws.{passes-follow, passes-each, always-ends, gapless}
 

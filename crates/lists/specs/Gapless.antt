@@ -1,4 +1,4 @@
--- What List's lexemes are: from any offset they follow one another without gap or overlap up to the first refusal or the
+-- What the lexemes of List, and of a slice, are: from any offset they follow one another without gap or overlap up to the first refusal or the
 -- end; each is the longest opening of the remaining text that stands in any class, legal or malformed; it stands in exactly one, and that
 -- class gives the answer. Assumes nothing.
 use Prim.Native.Nat.{ℕ, _+_, _<_}
@@ -13,6 +13,7 @@ use Rattle.grammar.specs.Longest.{Every, Longest, Source}
 use Rattle.records.specs.Records.{atFront}
 use Rattle.lists.specs.Walk.{Legal, tokenOf}
 use Rattle.lists.specs.Lists.{recordsOf, listFull, HasRoom}
+use Rattle.lists.specs.Parts.{PartAnswer, given, pausedAt, notBlank, kept}
 
 -- the first n bytes at a place are the longest opening that stands in any class; they stand in exactly one, which is malformed or not, and
 -- that class answers a
@@ -48,3 +49,23 @@ pub record Gapless (s : Source) (from : ℕ) (old : List ℕ) (a : Answer) (reco
   pub ends : Ends s (length old) lexemes to a
   pub counted : records ≡ length lexemes
   pub written : new ≡ atFront (recordsOf (s .text) lexemes) old
+
+-- A slice ends there too; at a legal one, where its allowance is spent; or at one that is not TK_NONE, for which there is no room and
+-- which costs nothing
+abbrev pub SliceEnds : Source → ℕ → ℕ → List Legal → ℕ → PartAnswer → Type 0
+SliceEnds s room allowance lexemes to a =
+    ((b : Answer) × RunEnds s to b × (a ≡ given b)) ⊎
+    ((t : Legal) × InOneClass false s to (t .length) (tokenOf t) × (length lexemes ≡ allowance) × (a ≡ pausedAt to)) ⊎
+    ((t : Legal) × InOneClass false s to (t .length) (tokenOf t) × (length lexemes < allowance) × (notBlank t ≡ true) ×
+    (HasRoom room (kept notBlank lexemes) t → ⊥) × (a ≡ given (listFull to)))
+
+-- the whole: the list begins with the records of those that are not TK_NONE, and each is spent
+pub record GaplessSlice (s : Source) (from allowance : ℕ) (old : List ℕ) (a : PartAnswer) (records spent : ℕ) (new : List ℕ) : Type 0 where
+  pub lexemes : List Legal
+  pub to : ℕ
+  pub follow : Follow from lexemes to
+  pub each : Each s lexemes
+  pub ends : SliceEnds s (length old) allowance lexemes to a
+  pub counted : records ≡ length (kept notBlank lexemes)
+  pub costs : spent ≡ length lexemes
+  pub written : new ≡ atFront (recordsOf (s .text) (kept notBlank lexemes)) old

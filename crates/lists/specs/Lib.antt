@@ -3,5 +3,8 @@ pub mod Walk
 pub mod Lists
 pub mod Lines
 pub mod Cuts
+pub mod Parts
+pub mod Passing
+pub mod Slices
 pub mod Gapless
 pub mod Texts

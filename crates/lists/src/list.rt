@@ -1,15 +1,11 @@
 // A text's records into a lent list of numbers.
-use crate::lines::line_behind_token;
-use crate::lines::record_of;
+use crate::pass::There;
+use crate::pass::pass;
 use grammar::profile::Profile;
+use keywords::kinds::TK_NONE;
 use lexer::cursor::Cursor;
-use lexer::lexed::Lexed;
 use lexer::lexed::Refusal;
-use lexer::next::next;
-use places::FIRST;
-use places::line_behind;
 use records::WIDTH;
-use records::put;
 ghost use Rattle.grammar.specs.Longest.{source};
 ghost use Rattle.lists.specs.Lists.{Lists};
 
@@ -46,51 +42,20 @@ pub fn list(text: &[u8], cursor: Cursor, profile: Profile, numbers: &mut [u32]) 
     if LONGEST_TEXT < text.len() {
         return Listed::TooLong { next: cursor };
     }
-    let mut at = cursor;
-    let mut line = line_behind(text, 0, cursor.at, FIRST);
-    let mut filled = 0;
-    loop {
-        match next(text, at, profile) {
-            Lexed::Token {
-                kind,
-                start: _,
-                length,
-                next,
-                digits: _,
-                underscores: _,
-            } => {
-                // A token starts at the cursor: its own start would be one number more to keep.
-                let record = record_of(kind, at.at, length, line);
-                if !put(numbers, filled, record) {
-                    return Listed::ListFull {
-                        records: filled / WIDTH,
-                        next: at,
-                    };
-                }
-                filled += WIDTH;
-                line = line_behind_token(text, kind, at.at, length, line);
-                at = next;
-            }
-            Lexed::End { next } => {
-                return Listed::End {
-                    records: filled / WIDTH,
-                    next,
-                };
-            }
-            Lexed::Refused {
-                why,
-                start,
-                length,
-                next,
-            } => {
-                return Listed::Refused {
-                    why,
-                    start,
-                    length,
-                    records: filled / WIDTH,
-                    next,
-                };
-            }
-        }
+    // A text has no more lexemes than bytes, so that this allowance is never spent.
+    let stop = pass(text, cursor, profile, numbers, TK_NONE, u32::MAX);
+    let records = stop.filled / WIDTH;
+    let next = stop.next;
+    let there = stop.there;
+    match there {
+        There::Lexeme => Listed::ListFull { records, next },
+        There::End => Listed::End { records, next },
+        There::Refused { why, start, length } => Listed::Refused {
+            why,
+            start,
+            length,
+            records,
+            next,
+        },
     }
 }
