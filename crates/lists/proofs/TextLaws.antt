@@ -2,11 +2,12 @@
 use Prim.Native.Nat.{ℕ, zero, suc, _+_, _*_}
 use native.Mathlib.Omega.{arith}
 use mathlib.Core.Path.{_≡_, refl, sym, _∙_, ap, subst}
-use mathlib.Core.Bool.{Bool, true, false, cond, not, _&&_, true≢false}
+use mathlib.Core.Bool.{Bool, true, false, cond, not, _&&_, _||_, true≢false}
 use mathlib.Core.List.{List, [], _∷_, _++_, map, nil≢cons, head-eq-of-cons-eq, tail-eq-of-cons-eq}
 use mathlib.Core.Logic.{inl, inr}
-use lib.Dec.{T, eqb, leb, eqb→eq, leb→le, le→leb}
+use lib.Dec.{T, eqb, leb, ltb, eqb→eq, leb→le, le→leb}
 use lib.ListN.{length}
+use borrow.Author.Tests.{leb-true, le-leb, ltb-true, lt-ltb}
 use Rattle.keywords.specs.Kinds.{kind}
 use Rattle.keywords.proofs.Logic.{split, and-left, and-right, every}
 use Rattle.keywords.specs.Words.{wordList}
@@ -26,9 +27,13 @@ use Rattle.lists.specs.declared.list.Listed.{Listed}
 use Rattle.lists.specs.declared.cut.Statement.{Statement}
 use Rattle.lists.specs.Lists.{recordsOf, HasRoom, listAnswer, Listing, answerOf, recordsIn, longestText, Lists}
 use Rattle.lists.specs.Cuts.{CutAnswer, kindsOf, Within, someNotNone, cutAnswer, Cutting, valuesOf, Cuts}
-use Rattle.lists.specs.Texts.{CutRow, cuts, ListRow, lists}
+use Rattle.lists.specs.declared.part.Part.{Part}
+use Rattle.lists.specs.Parts.{notBlank, kept, Allowed, partAnswer, Parting, Parts}
+use Rattle.lists.specs.Parts as parting
+use Rattle.lists.specs.Texts.{CutRow, cuts, ListRow, lists, PartRow, parts}
 use Rattle.lists.proofs.WalkLaws.{legal, legalOf, Stuck, token-passes, end-no-token, refusal-no-token}
 use Rattle.lists.proofs.Theorems.{listing-unique, cutting-unique}
+use Rattle.lists.proofs.PartTheorems.{parting-unique}
 
 -- a walk as the model computes it, with a test for what it passes: where it stops, or nothing if that takes more steps than these
 data Stop : Type 0 where
@@ -222,4 +227,107 @@ list-texts = every-row lists computed-lists all-fit
         let right = from-here (HasRoom n) (hasRoom n) (room-decides n) (r .source) (r .from) 20 in (
           list-so r (and-left (fits r) (every fits l) f) (list-row r (listWalk r) right (head-eq-of-cons-eq e)),
           every-row l (tail-eq-of-cons-eq e) (and-right (fits r) (every fits l) f),
+        )
+
+-- what a slice answers for a row, if the walk has stopped
+abbrev partGiven : PartRow → Stop → List PartRow
+partGiven r nowhere = []
+partGiven r (stop l to there) =
+    record {
+      source = r .source;
+      from = r .from;
+      allowance = r .allowance;
+      lent = r .lent;
+      answer = partAnswer to (eqb (length l) (r .allowance)) there;
+      records = length (kept notBlank l);
+      spent = length l;
+      left = atFront (recordsOf (r .source .text) (kept notBlank l)) (r .lent);
+    } ∷
+    []
+
+-- the allowance lasts, and a whole record is free or not asked for
+abbrev allowed : ℕ → ℕ → Test
+allowed numbers n l t = ltb (length l) n && (not (notBlank t) || hasRoom numbers (kept notBlank l) t)
+
+abbrev partWalk : PartRow → Stop
+partWalk r = walk 20 (allowed (length (r .lent)) (r .allowance)) (r .source) [] (r .from)
+
+computed-parts : map (λ r. partGiven r (partWalk r)) parts ≡ map (λ r. r ∷ []) parts
+unfolding parts kept recordsOf numbersOfAll lineAt columnAt newlines sinceNewline rules operators isDigit isHexdigit isIdentifierStart isIdentifierContinue isBlank answer kindOf upper wordList
+computed-parts = refl
+
+allowed-decides : (numbers n : ℕ) → Decides (Allowed notBlank numbers n) (allowed numbers n)
+allowed-decides numbers n = record { yes = passes; not = stops }
+  where
+    room : (b c : Bool) → not b || c ≡ true → b ≡ true → c ≡ true
+    room true c e f = e
+    room false c e f = absurd (true≢false (sym f))
+
+    passes : (l : List Legal) (t : Legal) → allowed numbers n l t ≡ true → Allowed notBlank numbers n l t
+    passes l t e =
+        let less = and-left (ltb (length l) n) (not (notBlank t) || hasRoom numbers (kept notBlank l) t) e in
+        let free = and-right (ltb (length l) n) (not (notBlank t) || hasRoom numbers (kept notBlank l) t) e in
+        (ltb-true (length l) n less, λ k. leb-true _ _ (room (notBlank t) (hasRoom numbers (kept notBlank l) t) free k))
+
+    both : (a b c : Bool) → a ≡ true → (b ≡ true → c ≡ true) → a && (not b || c) ≡ true
+    both a true c e f = rw (e, f refl) refl
+    both a false c e f = rw e refl
+
+    stops : (l : List Legal) (t : Legal) → allowed numbers n l t ≡ false → Allowed notBlank numbers n l t → ⊥
+    stops l t e (less, free) =
+        true≢false
+        (sym (both (ltb (length l) n) (notBlank t) (hasRoom numbers (kept notBlank l) t) (lt-ltb (length l) n less) (λ k. le-leb _ _ (free k))) ∙ e)
+
+-- a slice gives what a row says; an answer and a list are those of a row
+abbrev pub RowParting : PartRow → Type 0
+RowParting r = Parting (r .source) (r .from) (r .allowance) (r .lent) (r .answer) (r .records) (r .spent) (r .left)
+
+abbrev pub OfPartRow : PartRow → Part → List ℕ → Type 0
+OfPartRow r q new =
+    (parting.answerOf q ≡ r .answer) × (parting.recordsIn q ≡ r .records) × (parting.spentIn q ≡ r .spent) × (new ≡ r .left)
+
+part-row : (r : PartRow) (w : Stop) → Right (Allowed notBlank (length (r .lent)) (r .allowance)) (r .source) (r .from) w
+    → partGiven r w ≡ r ∷ [] → RowParting r
+part-row r nowhere x e = absurd (nil≢cons e)
+part-row r (stop l to there) (p, g, stuck) e =
+    let same = sym (head-eq-of-cons-eq e) in
+    record {
+      walk = record { passed = l; to = to; passes = p; there = there; gives = g; stops = stuck };
+      answers = ap (λ (q : PartRow). q .answer) same;
+      counted = ap (λ (q : PartRow). q .records) same;
+      costs = ap (λ (q : PartRow). q .spent) same;
+      written = ap (λ (q : PartRow). q .left) same;
+    }
+
+-- a row's answer, its numbers and its list are those of the definition, and whatever meets the contract of `list_part` answers and leaves so
+abbrev pub PartSo : PartRow → Type 0
+PartSo r = RowParting r × ((q : Part) (new : List ℕ) → Parts (r .source) (r .from) (r .allowance) (r .lent) q new → OfPartRow r q new)
+
+abbrev partFits : PartRow → Bool
+partFits r = leb (length (r .source .text)) longestText
+
+all-parts-fit : every partFits parts ≡ true
+unfolding parts
+all-parts-fit = refl
+
+part-so : (r : PartRow) → partFits r ≡ true → RowParting r → PartSo r
+unfolding Parts
+part-so r f x = (x, so)
+  where
+    so : (q : Part) (new : List ℕ) → Parts (r .source) (r .from) (r .allowance) (r .lent) q new → OfPartRow r q new
+    so q new (inl (h, u, v, w, z)) = let l = leb→le (length (r .source .text)) longestText (subst T (sym f) tt) in absurd (omega arith)
+    so q new (inr (h, y)) = parting-unique (r .source) (r .from) (r .allowance) (r .lent) _ (r .answer) _ (r .records) _ (r .spent) new (r .left) y x
+
+-- The rows of the table hold of slices.
+pub part-texts : Every PartSo parts
+part-texts = every-row parts computed-parts all-parts-fit
+  where
+    every-row : (l : List PartRow) → map (λ r. partGiven r (partWalk r)) l ≡ map (λ r. r ∷ []) l → every partFits l ≡ true → Every PartSo l
+    every-row [] e f = tt
+    every-row (r ∷ l) e f =
+        let n = length (r .lent) in
+        let m = r .allowance in
+        let right = from-here (Allowed notBlank n m) (allowed n m) (allowed-decides n m) (r .source) (r .from) 20 in (
+          part-so r (and-left (partFits r) (every partFits l) f) (part-row r (partWalk r) right (head-eq-of-cons-eq e)),
+          every-row l (tail-eq-of-cons-eq e) (and-right (partFits r) (every partFits l) f),
         )

@@ -1,4 +1,4 @@
--- Texts and what List and the cut must give for them: those of document 01, and some that are easy to get wrong. Assumes nothing.
+-- Texts and what List, a slice and the cut must give for them: those of document 01, and some that are easy to get wrong. Assumes nothing.
 use Prim.Native.Nat.{ℕ}
 use Prim.Native.String.{String}
 use mathlib.Core.Bool.{true, false}
@@ -11,6 +11,7 @@ use Rattle.grammar.specs.Answers.{Answer, end, refusal}
 use Rattle.grammar.specs.Longest.{Source, source}
 use Rattle.records.specs.Records.{recordOf, numbersOf}
 use Rattle.lists.specs.Cuts.{CutAnswer, cut, opened, ended, refused}
+use Rattle.lists.specs.Parts.{PartAnswer, given, paused}
 
 pub record CutRow : Type 0 where
   pub source : Source
@@ -132,4 +133,69 @@ lists =
     listRow "a\nb;" 2 10 (end 4) 2 (five "TK_ID" 2 1 2 1 ++ five "TK_SEMI" 3 1 2 2) ∷
     listRow "'\n';" 2 5 (refusal 2 2 2 2) 0 (replicate 5 9) ∷
     listRow "'a\nb';" 3 5 (refusal 2 4 2 4) 1 (five "TK_ID" 3 1 2 1) ∷
+    []
+
+-- a call with an allowance, lent a list of so many numbers 9
+pub record PartRow : Type 0 where
+  pub source : Source
+  pub from : ℕ
+  pub allowance : ℕ
+  pub lent : List ℕ
+  pub answer : PartAnswer
+  pub records : ℕ
+  pub spent : ℕ
+  pub left : List ℕ
+
+abbrev pub partRow : String → ℕ → ℕ → ℕ → PartAnswer → ℕ → ℕ → List ℕ → PartRow
+partRow t from allowance n a records spent left =
+    record {
+      source = source Turso (bytes t);
+      from = from;
+      allowance = allowance;
+      lent = replicate n 9;
+      answer = a;
+      records = records;
+      spent = spent;
+      left = left;
+    }
+
+abbrev pub sqlitePart : String → ℕ → ℕ → ℕ → PartAnswer → ℕ → ℕ → List ℕ → PartRow
+sqlitePart t from allowance n a records spent left =
+    record {
+      source = source Sqlite (bytes t);
+      from = from;
+      allowance = allowance;
+      lent = replicate n 9;
+      answer = a;
+      records = records;
+      spent = spent;
+      left = left;
+    }
+
+unfoldable pub parts : List PartRow
+parts =
+    -- no allowance: the end, an offset past it and a refusal come first
+    partRow "" 0 0 5 (given (end 0)) 0 0 (replicate 5 9) ∷
+    partRow "a" 1 0 5 (given (end 1)) 0 0 (replicate 5 9) ∷
+    partRow "a" 2 0 5 (given (refusal 8 0 0 2)) 0 0 (replicate 5 9) ∷
+    partRow "!" 0 0 5 (given (refusal 7 0 1 0)) 0 0 (replicate 5 9) ∷
+    partRow "a b" 0 0 10 (paused 0 0 0) 0 0 (replicate 10 9) ∷
+    -- a blank costs one, gets no record, and is a lexeme that one can be paused at; not so the end
+    partRow "a b" 0 1 10 (paused 1 0 1) 1 1 (five "TK_ID" 0 1 1 1 ++ replicate 5 9) ∷
+    partRow "a b" 0 2 10 (paused 2 0 2) 1 2 (five "TK_ID" 0 1 1 1 ++ replicate 5 9) ∷
+    partRow "a b" 0 3 10 (given (end 3)) 2 3 (five "TK_ID" 0 1 1 1 ++ five "TK_ID" 2 1 1 3) ∷
+    partRow "a b" 0 4 10 (given (end 3)) 2 3 (five "TK_ID" 0 1 1 1 ++ five "TK_ID" 2 1 1 3) ∷
+    -- a full list: Paused comes first; the lexeme that has no place is not spent; blanks and comments pass; a refusal comes first
+    partRow "a b" 0 2 5 (paused 2 0 2) 1 2 (five "TK_ID" 0 1 1 1) ∷
+    partRow "a b" 0 3 5 (given (refusal 10 2 0 2)) 1 2 (five "TK_ID" 0 1 1 1) ∷
+    partRow "a  /**/" 0 9 5 (given (end 7)) 1 3 (five "TK_ID" 0 1 1 1) ∷
+    partRow "  a" 0 9 4 (given (refusal 10 2 0 2)) 0 1 (replicate 4 9) ∷
+    partRow "a" 0 1 0 (given (refusal 10 0 0 0)) 0 0 [] ∷
+    partRow "a!" 0 1 5 (given (refusal 7 1 1 1)) 1 1 (five "TK_ID" 0 1 1 1) ∷
+    partRow "a 1.5a" 0 2 6 (given (refusal 4 3 2 2)) 1 2 (five "TK_ID" 0 1 1 1 ++ replicate 1 9) ∷
+    -- going on at the offset of one that was paused: line and column count from the text's beginning
+    partRow "a\n b" 1 2 6 (given (end 4)) 1 2 (five "TK_ID" 3 1 2 2 ++ replicate 1 9) ∷
+    -- request 7: the bracketed name is one lexeme, or three and more
+    partRow "[a;] ;" 0 3 11 (given (refusal 10 2 0 2)) 2 2 (five "TK_LBRACKET" 0 1 1 1 ++ five "TK_ID" 1 1 1 2 ++ replicate 1 9) ∷
+    sqlitePart "[a;] ;" 0 3 11 (given (end 6)) 2 3 (five "TK_ID" 0 4 1 1 ++ five "TK_SEMI" 5 1 1 6 ++ replicate 1 9) ∷
     []
