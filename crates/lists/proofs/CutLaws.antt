@@ -16,7 +16,6 @@ use Rattle.triggers.specs.declared.seen.Seen.the-variants.{Nothing}
 use Rattle.triggers.specs.Triggers.{counted}
 use Rattle.triggers.specs.Seen.{Tells, Follows, SaysEnd}
 use Rattle.triggers.proofs.Theorems.{such-tells}
-use Rattle.grammar.specs.Classes.{rules}
 use Rattle.grammar.specs.Answers.{Answer, token, end, refusal}
 use Rattle.grammar.specs.Longest.{Source, Next}
 use Rattle.grammar.proofs.Tokens.{end-told}

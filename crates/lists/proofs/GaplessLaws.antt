@@ -2,24 +2,24 @@
 use Prim.Native.Nat.{ℕ, _+_, _≤_, _<_}
 use native.Mathlib.Omega.{arith}
 use mathlib.Core.Path.{_≡_, refl, sym, _∙_, ap, subst}
-use mathlib.Core.Bool.{Bool, true, false, true≢false}
+use mathlib.Core.Bool.{true, false, true≢false}
 use mathlib.Core.List.{List, [], _∷_, _++_}
 use mathlib.Core.Logic.{inl, inr}
 use lib.Dec.{eqb}
 use lib.ListN.{length, take, drop}
 use borrow.Author.Tests.{eqb-true, eqb-false}
 use Rattle.keywords.proofs.Logic.{split}
-use Rattle.grammar.specs.Classes.{Class, malformed, rules}
+use Rattle.grammar.specs.Classes.{Class, malformed}
 use Rattle.grammar.specs.Classes.{blankRun, lineComment, blockComment, operator, string, quotedName, integer, float, blob, parameter, word, illegal}
 use Rattle.grammar.specs.Classes.{unrecognized, bang, openQuote, openBlob, oddBlob, badParameter, underscore, wordAfterInteger, wordAfterFraction}
 use Rattle.grammar.specs.Classes.{noExponent, wordAfterExponent, noHexdigit, underscoreAfterX, hexUnderscore, wordAfterHex}
-use Rattle.grammar.specs.Answers.{Answer, token, end, refusal, pastEnd, answer}
+use Rattle.grammar.specs.Answers.{Answer, token, end, refusal, answer}
 use Rattle.grammar.specs.Longest.{Source, Next}
 use Rattle.grammar.proofs.Tokens.{told, whole-token}
 use Rattle.lists.specs.Walk.{Legal, tokenOf, Goes, Always, Passes, Walk}
 use Rattle.lists.specs.Refusals.{listRefusal}
 use Rattle.lists.specs.Lists.{HasRoom, listFull, listAnswer, Listing}
-use Rattle.lists.specs.Parts.{notBlank, kept, Allowed, PartAnswer, given, partAnswer, Parting}
+use Rattle.lists.specs.Parts.{notBlank, Allowed, PartAnswer, partAnswer, Parting}
 use Rattle.lists.specs.Gapless.{InOneClass, Follow, Each, RunEnds, Ends, Gapless, SliceEnds, GaplessSlice}
 use Rattle.lists.proofs.WalkLaws.{legal, is-legal, end-no-token, refusal-no-token}
 use Rattle.lists.proofs.PartLaws.{within}
@@ -144,7 +144,7 @@ gapless-slice s from allowance old a records spent new x =
       written = x .written;
     }
 
--- the number with which a class refuses, 0 where it does not: none of List's own
+-- the number with which a class refuses, 0 where it does not, is none of List's own
 abbrev numberGiven : Answer → ℕ
 numberGiven (token k start n next d u) = 0
 numberGiven (end offset) = 0
@@ -181,8 +181,8 @@ refuses-with hexUnderscore at w = omega arith
 refuses-with wordAfterHex at w = omega arith
 
 pub never-full : (s : Source) (to : ℕ) (a : Answer) → RunEnds s to a → (at : ℕ) → a ≡ listFull at → ⊥
-never-full s to a (inl (h, e)) at f = let z : pastEnd to ≡ listFull at = sym e ∙ f in let z : _≡_ {A = ℕ} 8 10 = ap numberGiven z in omega arith
-never-full s to a (inr (inl (h, e))) at f = let z : end to ≡ listFull at = sym e ∙ f in let z : _≡_ {A = ℕ} 0 10 = ap numberGiven z in omega arith
+never-full s to a (inl (h, e)) at f = let z : _≡_ {A = ℕ} 8 10 = ap numberGiven (sym e ∙ f) in omega arith
+never-full s to a (inr (inl (h, e))) at f = let z : _≡_ {A = ℕ} 0 10 = ap numberGiven (sym e ∙ f) in omega arith
 never-full s to a (inr (inr (n, (c, bad, x, e)))) at f =
     let small : numberGiven (answer c to (take n (drop to (s .text)))) < 9 = refuses-with c to (take n (drop to (s .text))) in
     let z : numberGiven (answer c to (take n (drop to (s .text)))) ≡ 10 = ap numberGiven (sym e ∙ f) in

@@ -18,7 +18,7 @@ use Rattle.lists.specs.declared.list.Listed.the-variants.{End, Refused, 
 use Rattle.lists.specs.declared.pass.There.{There}
 use Rattle.lists.specs.declared.pass.There.the-variants.{Lexeme, End as AtEnd, Refused as AtRefusal}
 use Rattle.lists.specs.declared.pass.Stop.{Stop}
-use Rattle.lists.specs.Walk.{Legal, tokenOf, Goes, Passes}
+use Rattle.lists.specs.Walk.{Legal, tokenOf, Goes}
 use Rattle.lists.specs.Lists.{recordsOf, HasRoom, listFull, listAnswer, longestText, Listing, Lists}
 use Rattle.lists.specs.Parts.{kept, Allowed}
 use Rattle.lists.specs.Passing.{fromKind, Meets, Passing}
@@ -73,23 +73,24 @@ module _ (s : Source) (from least allowance : ℕ) (old : List ℕ) (stop : Stop
         written = w .written ∙ ap (λ (l : List Legal). atFront (recordsOf (s .text) l) old) passed;
       }
 
+  met : (x : There) → stop .there ≡ x → Meets x (stop .next .at) (w .walk .to) (w .walk .there)
+  met x e = subst (λ (x : There). Meets x (stop .next .at) (w .walk .to) (w .walk .there)) e (w .meets)
+
   pub lists-full : stop .there ≡ Lexeme → Lists s from old (ListFull (stop .filled / width) (stop .next)) new
   unfolding Lists
   lists-full e =
-      let m = subst (λ (x : There). Meets x (stop .next .at) (w .walk .to) (w .walk .there)) e (w .meets) in
-      inr (short, listing (listFull (stop .next .at)) (full-there (stop .next .at) (w .walk .to) (w .walk .there) m))
+      inr (short, listing (listFull (stop .next .at)) (full-there (stop .next .at) (w .walk .to) (w .walk .there) (met Lexeme e)))
 
   pub lists-end : stop .there ≡ AtEnd → Lists s from old (End (stop .filled / width) (stop .next)) new
   unfolding Lists
   lists-end e =
-      let m = subst (λ (x : There). Meets x (stop .next .at) (w .walk .to) (w .walk .there)) e (w .meets) in
-      inr (short, listing (end (stop .next .at)) (ap (listAnswer (w .walk .to)) (sym m)))
+      inr (short, listing (end (stop .next .at)) (ap (listAnswer (w .walk .to)) (sym (met AtEnd e))))
 
-  pub lists-refused : (why : Refusal) (start n : ℕ) → stop .there ≡ AtRefusal why start n → Lists s from old (Refused why start n (stop .filled / width) (stop .next)) new
+  pub lists-refused : (why : Refusal) (start n : ℕ) → stop .there ≡ AtRefusal why start n
+      → Lists s from old (Refused why start n (stop .filled / width) (stop .next)) new
   unfolding Lists
   lists-refused why start n e =
-      let m = subst (λ (x : There). Meets x (stop .next .at) (w .walk .to) (w .walk .there)) e (w .meets) in
-      inr (short, listing (refusal (numberOf why) start n (stop .next .at)) (ap (listAnswer (w .walk .to)) (sym m)))
+      inr (short, listing (refusal (numberOf why) start n (stop .next .at)) (ap (listAnswer (w .walk .to)) (sym (met (AtRefusal why start n) e))))
 
 -- a text that is too long
 pub too-long-lists : (s : Source) (from : ℕ) (old : List ℕ) (next : Cursor) → from ≡ next .at → longestText < length (s .text)

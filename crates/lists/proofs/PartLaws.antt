@@ -1,5 +1,5 @@
 -- What `list_part` answers where its walk stops. Assumes nothing.
-use Prim.Native.Nat.{ℕ, zero, suc, _+_, _-_, _*_, _/_, _≤_, _<_}
+use Prim.Native.Nat.{ℕ, zero, suc, _+_, _-_, _/_, _≤_, _<_}
 use native.Mathlib.Omega.{arith}
 use mathlib.Core.Path.{_≡_, refl, sym, _∙_, ap, subst, fun-ext}
 use mathlib.Core.Bool.{Bool, true, false, not}
@@ -67,7 +67,8 @@ module _ (s : Source) (from least allowance : ℕ) (old : List ℕ) (stop : Stop
       (ap fromKind behind ∙ not-blank) w
 
   parting : (a : PartAnswer) (spent : Bool) → eqb (length (tokens .walk .passed)) allowance ≡ spent
-      → a ≡ partAnswer (tokens .walk .to) spent (tokens .walk .there) → Parting s from allowance old a (stop .filled / width) (allowance - stop .left) new
+      → a ≡ partAnswer (tokens .walk .to) spent (tokens .walk .there)
+      → Parting s from allowance old a (stop .filled / width) (allowance - stop .left) new
   parting a spent b e =
       let v = tokens in
       record {
@@ -81,14 +82,16 @@ module _ (s : Source) (from least allowance : ℕ) (old : List ℕ) (stop : Stop
   met : (x : There) → stop .there ≡ x → Meets x (stop .next .at) (tokens .walk .to) (tokens .walk .there)
   met x e = subst (λ (x : There). Meets x (stop .next .at) (tokens .walk .to) (tokens .walk .there)) e (tokens .meets)
 
-  pub parts-paused : stop .there ≡ Lexeme → stop .left ≡ 0 → Parts s from allowance old (Paused (stop .filled / width) (allowance - stop .left) (stop .next)) new
+  pub parts-paused : stop .there ≡ Lexeme → stop .left ≡ 0
+      → Parts s from allowance old (Paused (stop .filled / width) (allowance - stop .left) (stop .next)) new
   unfolding Parts
   parts-paused e none =
       let v = tokens in
       let spent = eq-eqb (length (v .walk .passed)) allowance (omega (arith, v .left)) in
       inr (short, parting (pausedAt (stop .next .at)) true spent (paused-there (stop .next .at) (v .walk .to) (v .walk .there) (met Lexeme e)))
 
-  pub parts-full : stop .there ≡ Lexeme → (stop .left ≡ 0 → ⊥) → Parts s from allowance old (ListFull (stop .filled / width) (allowance - stop .left) (stop .next)) new
+  pub parts-full : stop .there ≡ Lexeme → (stop .left ≡ 0 → ⊥)
+      → Parts s from allowance old (ListFull (stop .filled / width) (allowance - stop .left) (stop .next)) new
   unfolding Parts
   parts-full e some =
       let v = tokens in

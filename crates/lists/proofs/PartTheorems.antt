@@ -1,18 +1,17 @@
 -- For readers. `part-unique`: the contract of `list_part` leaves one answer and one list. `slice-of-longest-in-one-class`: a slice's lexemes
 -- follow one another, each the longest and in one class, up to Paused too. `slices-are-one-call`: slices, each from where the one before was
 -- paused, give what one call with all their allowances gives, where no list runs full. `list-without-blanks`: a call that comes to the end or
--- to a refusal gives List's records, those of TK_NONE left out. `paused-exactly`, `full-not-spent`: what it is that a slice stops at. `part-too-long`:
--- the refusal that comes first. Assumes nothing.
+-- to a refusal gives List's records, those of TK_NONE left out. `paused-exactly`, `full-not-spent`: what it is that a slice stops at.
+-- `part-too-long`: the refusal that comes first. Assumes nothing.
 use Prim.Native.Nat.{ℕ, _+_, _*_, _≤_, _<_}
 use native.Mathlib.Omega.{arith}
 use mathlib.Core.Path.{_≡_, refl, sym, _∙_, ap, subst}
 use mathlib.Core.Bool.{Bool, true, false, cond}
-use mathlib.Core.List.{List, [], _∷_, _++_}
+use mathlib.Core.List.{List}
 use mathlib.Core.Logic.{inl, inr}
 use lib.Dec.{eqb}
-use lib.ListN.{length, take, drop}
+use lib.ListN.{length}
 use borrow.Author.Tests.{eqb-true, eq-eqb}
-use Rattle.keywords.proofs.Logic.{split}
 use Rattle.grammar.specs.Classes.{rules}
 use Rattle.grammar.specs.Answers.{Answer, token, end, refusal}
 use Rattle.grammar.specs.Longest.{Source, Next}
@@ -29,14 +28,16 @@ use Rattle.records.specs.Records.{width, atFront}
 use Rattle.lists.specs.declared.part.Part.{Part}
 use Rattle.lists.specs.declared.part.Part.the-variants.{End, Refused, TooLong, Paused, ListFull}
 use Rattle.lists.specs.Refusals.{listRefusal}
-use Rattle.lists.specs.Walk.{Legal, tokenOf, Always, Walk}
-use Rattle.lists.specs.Lists.{recordsOf, HasRoom, listFull, listAnswer, longestText, Listing}
-use Rattle.lists.specs.Parts.{notBlank, kept, Allowed, PartAnswer, given, paused, pausedAt, partAnswer, Parting, answerOf, recordsIn, spentIn, Parts}
+use Rattle.lists.specs.Walk.{Legal, tokenOf, Goes, Always, Walk}
+use Rattle.lists.specs.Lists.{listFull, listAnswer, longestText, Listing}
+use Rattle.lists.specs.Parts.{notBlank, kept, Allowed, PartAnswer, given, paused, pausedAt, partAnswer, Parting}
+use Rattle.lists.specs.Parts.{answerOf, recordsIn, spentIn, Parts}
 use Rattle.lists.specs.Slices.{Slice, Sliced, total, readFirst, readAll, Full, withoutNone}
 use Rattle.lists.specs.Gapless.{InOneClass, SliceEnds, GaplessSlice}
 use Rattle.lists.proofs.WalkLaws.{legal, is-legal, walk-one}
 use Rattle.lists.proofs.GaplessLaws.{gapless-slice, never-full}
-use Rattle.lists.proofs.SliceLaws.{AtMost, written, front-first, paused-there, Run, run-of, run-slices, every-list, every-part, same-answer, without}
+use Rattle.lists.proofs.SliceLaws.{AtMost, written, front-first, paused-there, Run, run-of, run-slices}
+use Rattle.lists.proofs.SliceLaws.{every-list, every-part, same-answer, without}
 
 -- An answer can be read back from its values.
 abbrev refusedOf : ℕ → ℕ → ℕ → ℕ → ℕ → ℕ → Part
@@ -73,13 +74,23 @@ same-values r q a m n =
     sym (part-back r) ∙ ap (λ (b : PartAnswer). partOf b (recordsIn r) (spentIn r)) a ∙
     ap (λ (x : ℕ). partOf (answerOf q) x (spentIn r)) m ∙ ap (partOf (answerOf q) (recordsIn q)) n ∙ part-back q
 
+-- two walks by one rule give one answer
+same-walk : (goes : Goes) (s : Source) (from allowance : ℕ) (v w : Walk goes s from)
+    → (v .passed ≡ w .passed) ×
+    (partAnswer (v .to) (eqb (length (v .passed)) allowance) (v .there) ≡ partAnswer (w .to) (eqb (length (w .passed)) allowance) (w .there))
+same-walk goes s from allowance v w =
+    let (p, q, t) = walk-one goes s from v w in (
+      p,
+      ap (λ (at : ℕ). partAnswer at (eqb (length (v .passed)) allowance) (v .there)) q ∙
+          ap (λ (l : List Legal). partAnswer (w .to) (eqb (length l) allowance) (v .there)) p ∙
+          ap (partAnswer (w .to) (eqb (length (w .passed)) allowance)) t,
+    )
+
 pub parting-unique : (s : Source) (from allowance : ℕ) (old : List ℕ) (a b : PartAnswer) (m n i j : ℕ) (new new′ : List ℕ)
     → Parting s from allowance old a m i new → Parting s from allowance old b n j new′ → (a ≡ b) × (m ≡ n) × (i ≡ j) × (new ≡ new′)
 parting-unique s from allowance old a b m n i j new new′ x y =
-    let (p, q, t) = walk-one (Allowed notBlank (length old) allowance) s from (x .walk) (y .walk) in (
-      x .answers ∙ ap (λ (at : ℕ). partAnswer at (eqb (length (x .walk .passed)) allowance) (x .walk .there)) q ∙
-          ap (λ (l : List Legal). partAnswer (y .walk .to) (eqb (length l) allowance) (x .walk .there)) p ∙
-          ap (partAnswer (y .walk .to) (eqb (length (y .walk .passed)) allowance)) t ∙ sym (y .answers),
+    let (p, e) = same-walk (Allowed notBlank (length old) allowance) s from allowance (x .walk) (y .walk) in (
+      x .answers ∙ e ∙ sym (y .answers),
       x .counted ∙ ap (λ (l : List Legal). length (kept notBlank l)) p ∙ sym (y .counted),
       x .costs ∙ ap length p ∙ sym (y .costs),
       x .written ∙ ap (λ (l : List Legal). atFront (written s l) old) p ∙ sym (y .written),
@@ -117,10 +128,8 @@ slice-of-longest-in-one-class s from allowance old r new h (inr (l, x)) =
 run-one : (s : Source) (from allowance : ℕ) (a b : PartAnswer) (m n i j : ℕ) (rs qs : List Record)
     → Run s from allowance a m i rs → Run s from allowance b n j qs → (a ≡ b) × (m ≡ n) × (i ≡ j) × (rs ≡ qs)
 run-one s from allowance a b m n i j rs qs x y =
-    let (p, q, t) = walk-one (AtMost allowance) s from (x .walk) (y .walk) in (
-      x .answers ∙ ap (λ (at : ℕ). partAnswer at (eqb (length (x .walk .passed)) allowance) (x .walk .there)) q ∙
-          ap (λ (l : List Legal). partAnswer (y .walk .to) (eqb (length l) allowance) (x .walk .there)) p ∙
-          ap (partAnswer (y .walk .to) (eqb (length (y .walk .passed)) allowance)) t ∙ sym (y .answers),
+    let (p, e) = same-walk (AtMost allowance) s from allowance (x .walk) (y .walk) in (
+      x .answers ∙ e ∙ sym (y .answers),
       x .counted ∙ ap (λ (l : List Legal). length (kept notBlank l)) p ∙ sym (y .counted),
       x .costs ∙ ap length p ∙ sym (y .costs),
       x .reads ∙ ap (written s) p ∙ sym (y .reads),

@@ -43,7 +43,8 @@ pub record Inside (s : Source) (from least allowance : ℕ) (old out : List ℕ)
   pub line : at ≤ length (s .text) → here ≡ lineOf (s .text) at
 
 pub begins : (s : Source) (from least allowance : ℕ) (old : List ℕ) (here : Line) → length (s .text) ≤ longestText
-    → here ≡ lineOver (record { number = 1; start = 0 }) 0 (slice 0 from (s .text)) → Inside s from least allowance old old from here 0 allowance
+    → here ≡ lineOver (record { number = 1; start = 0 }) 0 (slice 0 from (s .text))
+    → Inside s from least allowance old old from here 0 allowance
 unfolding Passes kept recordsOf
 begins s from least allowance old here short e =
     record {
@@ -142,7 +143,8 @@ module _ {s : Source} {from least allowance : ℕ} {old out : List ℕ} {at : �
             positive n f = omega (arith, f)
 
         -- without a record
-        pub blank-on : k < least → (out′ : List ℕ) (i′ : ℕ) → out′ ≡ out → i′ ≡ i → Inside s from least allowance old out′ (next .at) here′ i′ (left - 1)
+        pub blank-on : k < least → (out′ : List ℕ) (i′ : ℕ) → out′ ≡ out → i′ ≡ i
+            → Inside s from least allowance old out′ (next .at) here′ i′ (left - 1)
         blank-on below out′ i′ e f =
             let none = lt-leb least k below in
             let same = kept-none (fromKind least) (v .passed) t none in

@@ -1,5 +1,5 @@
 -- Walks that only an allowance stops: they join, and where no list runs full they are those of slices. Assumes nothing.
-use Prim.Native.Nat.{ℕ, _+_, _≤_, _<_}
+use Prim.Native.Nat.{ℕ, _+_, _<_}
 use native.Mathlib.Omega.{arith}
 use mathlib.Core.Path.{_≡_, refl, sym, _∙_, ap, ap₂, subst}
 use mathlib.Core.Bool.{Bool, true, false}
@@ -12,11 +12,11 @@ use Rattle.keywords.proofs.Logic.{split}
 use Rattle.grammar.specs.Answers.{Answer, token, end, refusal}
 use Rattle.grammar.specs.Longest.{Source}
 use Rattle.records.specs.declared.Record.{Record}
-use Rattle.records.specs.Records.{width, readBack, atFront}
+use Rattle.records.specs.Records.{readBack, atFront}
 use Rattle.records.proofs.Theorems.{front-read}
 use Rattle.lists.specs.Walk.{Legal, tokenOf, Goes, Always, Passes, Walk}
 use Rattle.lists.specs.Lists.{recordOf, recordsOf, HasRoom, listFull, listAnswer, Listing}
-use Rattle.lists.specs.Parts.{notBlank, kept, Allowed, PartAnswer, given, paused, pausedAt, partAnswer, Parting}
+use Rattle.lists.specs.Parts.{notBlank, kept, Allowed, PartAnswer, given, pausedAt, partAnswer, Parting}
 use Rattle.lists.specs.Slices.{Slice, From, Sliced, total, readFirst, readAll, Full, withoutNone}
 use Rattle.lists.proofs.WalkLaws.{end-no-token, refusal-no-token, passes-also}
 use Rattle.lists.proofs.KeptLaws.{records-append, records-many, kept-append}

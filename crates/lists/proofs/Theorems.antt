@@ -14,7 +14,6 @@ use lib.ListN.{length, take, drop}
 use Rattle.keywords.specs.Kinds.{kind}
 use Rattle.triggers.specs.Triggers.{IsTrigger, EndsStatement}
 use Rattle.triggers.proofs.Theorems.{ends-or-not, as-before, still-trigger}
-use Rattle.grammar.specs.Classes.{rules}
 use Rattle.grammar.specs.Answers.{Answer, token, end, refusal, isRefusal}
 use Rattle.grammar.specs.Longest.{Source, Next}
 use Rattle.grammar.proofs.Tokens.{told, refuses}

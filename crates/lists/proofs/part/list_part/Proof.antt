@@ -1,5 +1,4 @@
 -- `lists::part::list_part` meets its contract. Assumes nothing.
-use native.Mathlib.Omega.{arith}
 use mathlib.Core.Path.{refl}
 use borrow.Author.Needs.{needs}
 use Rattle.lists.proofs.PartLaws.{parts-paused, parts-full, parts-end, parts-refused, too-long-parts}
