@@ -16,6 +16,7 @@ mod literals;
 mod makers;
 mod near;
 mod newlines;
+mod parts;
 mod random;
 mod shares;
 mod statements;
@@ -63,7 +64,9 @@ pub fn compare(out: &mut impl Write, args: &[String]) -> io::Result<bool> {
 pub fn second(out: &mut impl Write, args: &[String]) -> io::Result<bool> {
     let (wanted, _) = Wanted::read(args)?;
     let families = shares::all(wanted.plan()).into_iter().map(|family| family.under(Profile::Turso));
-    let asked = |family: &Family| matches!((family.mode)(0), Mode::Next | Mode::Sums | Mode::List(_) | Mode::Cut);
+    let asked = |family: &Family| {
+        matches!((family.mode)(0), Mode::Next | Mode::Sums | Mode::List(_) | Mode::Part(..) | Mode::Cut)
+    };
     let families: Vec<_> = families.filter(asked).collect();
     let Some(texts) = wanted.ask(out, &families, Other::Second)? else { return Ok(false) };
     count(out, "total", texts.turso)?;

@@ -1,4 +1,5 @@
-//! List and the cut into statements, said plainly over the walk. Both go on to where the walk stops, and keep what came first.
+//! List, also without blanks and a slice at a time, and the cut into statements, said plainly over the walk. All go on to where the walk
+//! stops, and keep what came first.
 
 use crate::kinds;
 use crate::token::TokenType::{
@@ -21,15 +22,12 @@ pub fn list(source: Source, numbers: &mut [u32], text: &[u8], offset: usize) -> 
     if text.len() >= TOO_LONG {
         return Ok((Stop::Refusal("TooLong", 0, 0, offset), 0));
     }
-    let newlines: Vec<_> = (0..text.len()).filter(|&place| text[place] == 0x0a).collect();
+    let newlines = newlines(text);
     let (mut records, mut full) = (0, None);
     let stop = walk(source, text, offset, |kind, start, length| {
         match numbers.chunks_exact_mut(WIDTH).nth(records) {
             Some(free) => {
-                let [line, column] = line_and_column(&newlines, start);
-                let [start, length, line, column] = [start, length, line, column].map(|number| number as u32);
-                let record: [u32; WIDTH] = [kinds::number(kind), start, length, line, column];
-                free.copy_from_slice(&record);
+                free.copy_from_slice(&record(&newlines, (kind, start, length)));
                 records += 1;
             }
             None => full = full.or(Some(start)),
@@ -40,8 +38,65 @@ pub fn list(source: Source, numbers: &mut [u32], text: &[u8], offset: usize) -> 
     Ok((full.unwrap_or(stop), records))
 }
 
+/// How a slice of a list stopped.
+pub enum Slice {
+    /// As List does.
+    Stop(Stop),
+    /// The allowance is spent, and another legal lexeme begins here.
+    Paused(usize),
+}
+
+/// Request 6: List without TK_NONE, in which 'each lexeme passed, blank or not, costs one' of an allowance. Gives how it stopped, the number of
+/// records and that of the lexemes spent.
+pub fn part(
+    source: Source,
+    numbers: &mut [u32],
+    text: &[u8],
+    offset: usize,
+    allowance: u32,
+) -> io::Result<(Slice, usize, usize)> {
+    if text.len() >= TOO_LONG {
+        return Ok((Slice::Stop(Stop::Refusal("TooLong", 0, 0, offset)), 0, 0));
+    }
+    let mut lexemes = Vec::new();
+    let stop = walk(source, text, offset, |kind, start, length| {
+        lexemes.push((kind, start, length));
+        Ok(())
+    })?;
+    let is_token = |&(kind, ..): &Lexeme| kind != TK_NONE;
+    // How many can be passed: all up to where the walk stops, as many as are allowed, those before the first token that has no place.
+    let (all, allowed) = (lexemes.len(), allowance as usize);
+    let full = (0..all).filter(|&place| is_token(&lexemes[place])).nth(numbers.len() / WIDTH);
+    let spent = all.min(allowed).min(full.unwrap_or(all));
+    // 'Order at each place is End, 1 to 7, Paused, then ListFull for tokens other than TK_NONE.'
+    let slice = match lexemes.get(spent) {
+        None => Slice::Stop(stop),
+        Some(&(_, start, _)) if spent == allowed => Slice::Paused(start),
+        Some(&(_, start, _)) => Slice::Stop(Stop::Refusal("ListFull", start, 0, start)),
+    };
+    let newlines = newlines(text);
+    let records: Vec<_> =
+        lexemes[..spent].iter().filter(|lexeme| is_token(lexeme)).map(|&lexeme| record(&newlines, lexeme)).collect();
+    numbers[..WIDTH * records.len()].copy_from_slice(&records.concat());
+    Ok((slice, records.len(), spent))
+}
+
+/// Kind, start and length.
+type Lexeme = (TokenType, usize, usize);
+
+fn record(newlines: &[usize], (kind, start, length): Lexeme) -> [u32; WIDTH] {
+    let [line, column] = line_and_column(newlines, start);
+    let [start, length, line, column] = [start, length, line, column].map(|number| number as u32);
+    [kinds::number(kind), start, length, line, column]
+}
+
+/// The places of all 0A bytes of the text, wherever a list starts.
+fn newlines(text: &[u8]) -> Vec<usize> {
+    (0..text.len()).filter(|&place| text[place] == 0x0a).collect()
+}
+
 /// Request 1: 'Line is 1 plus the 0A bytes before the start; column is 1 plus the bytes since the last 0A before the start, or since the
-/// text's beginning.' From the places of all 0A bytes of the text, wherever List starts.
+/// text's beginning.'
 fn line_and_column(newlines: &[usize], start: usize) -> [usize; 2] {
     let before = &newlines[..newlines.partition_point(|&place| place < start)];
     let since = before.last().map_or(0, |last| last + 1);

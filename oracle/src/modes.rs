@@ -3,7 +3,7 @@
 pub mod buffers;
 
 use crate::lexer::{is_quotable_keyword, word_kind};
-use crate::list::{self, Statement};
+use crate::list::{self, Slice, Statement};
 use crate::records;
 use crate::script::{self, Call};
 use crate::second::Profile;
@@ -14,8 +14,8 @@ use crate::walk::{walk, Source, Stop};
 use std::io::{self, Write};
 
 pub const USAGE: &str = "\
-modes: next [PROFILE], sums [PROFILE], list N [PROFILE] (N 0 to 327675), cut [PROFILE], stream [PROFILE],
-literal [PROFILE], word, write, replay (records in, answers out); answers; ahead; compare COUNT SEED FOLDER PROGRAM [ARG..];
+modes: next [PROFILE], sums [PROFILE], list N [PROFILE] (N 0 to 327675), part N A [PROFILE] (A 0 to 4294967295), cut [PROFILE],
+stream [PROFILE], literal [PROFILE], word, write, replay (records in, answers out); answers; ahead; compare COUNT SEED FOLDER PROGRAM [ARG..];
 second COUNT SEED FOLDER; tokenizer COUNT SEED FOLDER PROGRAM [ARG..]; tokens PROGRAM [ARG..] (records in);
 complete COUNT SEED - PROGRAM [ARG..]. PROFILE is turso, also where none is named, or sqlite; FOLDER is - for none";
 
@@ -26,6 +26,8 @@ pub enum Mode {
     Sums,
     /// With so many numbers lent.
     List(usize),
+    /// With so many numbers lent, and such an allowance of lexemes.
+    Part(usize, u32),
     Cut,
     /// The text is a script of a stream's calls.
     Stream,
@@ -52,7 +54,8 @@ impl Mode {
         let mode = match words[..] {
             ["next"] => Mode::Next,
             ["sums"] => Mode::Sums,
-            ["list", n] => n.parse().ok().filter(|&n| n <= list::MOST).map(Mode::List)?,
+            ["list", n] => Mode::List(numbers(n)?),
+            ["part", n, allowance] => Mode::Part(numbers(n)?, allowance.parse().ok()?),
             ["cut"] => Mode::Cut,
             ["stream"] => Mode::Stream,
             ["literal"] => Mode::Literal,
@@ -67,6 +70,7 @@ impl Mode {
             Mode::Next => vec!["next".to_string()],
             Mode::Sums => vec!["sums".to_string()],
             Mode::List(n) => vec!["list".to_string(), n.to_string()],
+            Mode::Part(n, allowance) => vec!["part".to_string(), n.to_string(), allowance.to_string()],
             Mode::Cut => vec!["cut".to_string()],
             Mode::Stream => vec!["stream".to_string()],
             Mode::Literal => vec!["literal".to_string()],
@@ -100,6 +104,7 @@ impl Mode {
             Mode::Next => print_walk(source, out, offset, text, |_, _| String::new()),
             Mode::Sums => print_walk(source, out, offset, text, sums),
             Mode::List(n) => print_list(source, out, n, offset, text),
+            Mode::Part(n, allowance) => print_part(source, out, n, allowance, offset, text),
             Mode::Cut => print_cut(source, out, offset, text),
             Mode::Stream => print_stream(source, out, text),
             Mode::Literal => buffers::print_literal(source, out, offset, text),
@@ -107,6 +112,11 @@ impl Mode {
             Mode::Write => buffers::print_write(out, offset, text),
         }
     }
+}
+
+/// How many numbers are lent.
+fn numbers(word: &str) -> Option<usize> {
+    word.parse().ok().filter(|&n| n <= list::MOST)
 }
 
 /// What the program `replay` prints of a record: Next with sums, so by a reader, List with too few, just enough and more numbers, and the cut.
@@ -154,18 +164,45 @@ fn sums(kind: TokenType, bytes: &[u8]) -> String {
 
 /// The numbers lent as they are afterwards, then how List stopped and the number of records.
 fn print_list(source: Source, out: &mut impl Write, n: usize, offset: usize, text: &[u8]) -> io::Result<()> {
-    // No record has this number in it, so that the numbers left alone are seen.
-    let mut numbers = vec![u32::MAX; n];
+    let mut numbers = vec![BEFORE; n];
     let (stop, records) = list::list(source, &mut numbers, text, offset)?;
+    print_numbers(out, &numbers)?;
+    match stop {
+        Stop::End(offset) => writeln!(out, "END\t{offset}\t{records}\n"),
+        Stop::Refusal(name, start, length, offset) => {
+            writeln!(out, "{name}\t{start}\t{length}\t{offset}\t{records}\n")
+        }
+    }
+}
+
+/// The same of a list without blanks, a slice at a time, and the number of lexemes that it spent.
+fn print_part(
+    source: Source,
+    out: &mut impl Write,
+    n: usize,
+    allowance: u32,
+    offset: usize,
+    text: &[u8],
+) -> io::Result<()> {
+    let mut numbers = vec![BEFORE; n];
+    let (slice, records, spent) = list::part(source, &mut numbers, text, offset, allowance)?;
+    print_numbers(out, &numbers)?;
+    match slice {
+        Slice::Stop(Stop::End(offset)) => write!(out, "END\t{offset}")?,
+        Slice::Stop(Stop::Refusal(name, start, length, offset)) => write!(out, "{name}\t{start}\t{length}\t{offset}")?,
+        Slice::Paused(start) => write!(out, "Paused\t{start}\t0\t{start}")?,
+    }
+    writeln!(out, "\t{records}\t{spent}\n")
+}
+
+/// What each number of a list is beforehand. No record has it, so that the numbers left alone are seen.
+const BEFORE: u32 = u32::MAX;
+
+fn print_numbers(out: &mut impl Write, numbers: &[u32]) -> io::Result<()> {
     for (place, number) in numbers.iter().enumerate() {
         write!(out, "{}{number}", if place > 0 { " " } else { "" })?;
     }
-    match stop {
-        Stop::End(offset) => writeln!(out, "\nEND\t{offset}\t{records}\n"),
-        Stop::Refusal(name, start, length, offset) => {
-            writeln!(out, "\n{name}\t{start}\t{length}\t{offset}\t{records}\n")
-        }
-    }
+    writeln!(out)
 }
 
 fn print_cut(source: Source, out: &mut impl Write, offset: usize, text: &[u8]) -> io::Result<()> {

@@ -4,6 +4,7 @@ use printing::MOST;
 use printing::answers::Way;
 use printing::blocks::put_cut_block;
 use printing::blocks::put_list_block;
+use printing::blocks::put_part_block;
 use printing::blocks::put_stream_block;
 use printing::blocks::put_walk_block;
 use printing::blocks::put_word_block;
@@ -22,13 +23,14 @@ use shown::writes::put_writes;
 ghost use Rattle.rows.specs.Out.{Within};
 ghost use Rattle.printing.specs.Rows.{Holds};
 
-// What is printed of a record: `next` walked over the text, also with the tokens' digits and underscores, a list of so many numbers, the
-// statement cut, the text as a word, or as a script of a stream's calls, a span's literals read, or the text written as literals; or, for
-// `Replay`, the walk, the walk by a reader, lists of several lengths and the cut.
+// What is printed of a record: `next` walked over the text, also with the tokens' digits and underscores, a list of so many numbers, one
+// without TK_NONE and with an allowance of lexemes, the statement cut, the text as a word, or as a script of a stream's calls, a span's
+// literals read, or the text written as literals; or, for `Replay`, the walk, the walk by a reader, lists of several lengths and the cut.
 pub enum Mode {
     Next,
     Sums,
     List(usize),
+    Part(usize, u32),
     Cut,
     Word,
     Stream,
@@ -165,6 +167,9 @@ fn put_answer(
         Mode::Next => put_walk_block(out, at, names, text, offset, Way::Next, profile),
         Mode::Sums => put_walk_block(out, at, names, text, offset, Way::Sums, profile),
         Mode::List(n) => put_list_block(out, at, text, offset, profile, numbers, n),
+        Mode::Part(n, allowance) => {
+            put_part_block(out, at, text, offset, profile, allowance, numbers, n)
+        }
         Mode::Cut => put_cut_block(out, at, text, offset, profile),
         Mode::Word => put_word_block(out, at, names, text),
         Mode::Stream => put_stream_block(out, at, names, text, profile, held),

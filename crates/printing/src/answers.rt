@@ -1,9 +1,12 @@
-// What is printed of a text: the tokens that `next` gives one after another, a list, a cut, or the text as a word.
+// What is printed of a text: the tokens that `next` gives one after another, a list, also a slice of one without TK_NONE, a cut, or the text
+// as a word.
 use crate::kinds::put_kind;
 use crate::lines::put_counted_place;
 use crate::lines::put_end;
 use crate::lines::put_place;
 use crate::lines::put_refusal;
+use crate::lines::put_spent;
+use crate::lines::put_spent_place;
 use crate::lines::put_statement;
 use crate::lines::put_sums;
 use crate::lines::put_token;
@@ -16,6 +19,8 @@ use lists::cut::Statement;
 use lists::cut::cut;
 use lists::list::Listed;
 use lists::list::list;
+use lists::part::Part;
+use lists::part::list_part;
 use reader::read_at;
 use rows::numbers::put_column;
 use rows::numbers::put_number;
@@ -170,6 +175,79 @@ fn put_listed(out: &mut [u8], at: usize, listed: Listed) -> usize
             put_counted_place(out, named, next.at, 0, next.at, records)
         }
     }
+}
+
+// The same behind `list_part`, with how many lexemes were spent at the end of the last line. Paused is told as a refusal is.
+pub(crate) fn put_list_part(
+    out: &mut [u8],
+    at: usize,
+    text: &[u8],
+    offset: usize,
+    profile: Profile,
+    allowance: u32,
+    numbers: &mut [u32],
+) -> usize
+    ensures { λ r. ⌜ Within (now (out .exit)) r ⌝ }
+{
+    unset(numbers);
+    let part = list_part(text, Cursor { at: offset }, profile, allowance, numbers);
+    let end = put_numbers(out, at, numbers);
+    put_listed_part(out, end, part)
+}
+
+fn put_listed_part(out: &mut [u8], at: usize, part: Part) -> usize
+    ensures { λ r. ⌜ Within (now (out .exit)) r ⌝ }
+{
+    match part {
+        Part::End {
+            records,
+            spent,
+            next,
+        } => {
+            let named = put(out, at, b"END");
+            put_spent(out, named, next.at, records, spent)
+        }
+        Part::Refused {
+            why,
+            start,
+            length,
+            records,
+            spent,
+            next,
+        } => {
+            let named = put_why(out, at, why);
+            put_spent_place(out, named, start, length, next.at, records, spent)
+        }
+        Part::TooLong { next } => {
+            let named = put(out, at, b"TooLong");
+            put_spent_place(out, named, 0, 0, next.at, 0, 0)
+        }
+        Part::Paused {
+            records,
+            spent,
+            next,
+        } => put_stopped(out, at, b"Paused", next.at, records, spent),
+        Part::ListFull {
+            records,
+            spent,
+            next,
+        } => put_stopped(out, at, b"ListFull", next.at, records, spent),
+    }
+}
+
+// What stops at a legal lexeme has a span of no byte there.
+fn put_stopped(
+    out: &mut [u8],
+    at: usize,
+    name: &[u8],
+    offset: usize,
+    records: usize,
+    spent: u32,
+) -> usize
+    ensures { λ r. ⌜ Within (now (out .exit)) r ⌝ }
+{
+    let named = put(out, at, name);
+    put_spent_place(out, named, offset, 0, offset, records, spent)
 }
 
 // CUT, the span, whether it has a token that counts, and the offset; or OPEN or END, the span and the offset; or the refusal.

@@ -2,6 +2,7 @@
 use crate::answers::Way;
 use crate::answers::put_cut;
 use crate::answers::put_list;
+use crate::answers::put_list_part;
 use crate::answers::put_walk;
 use crate::answers::put_word;
 use crate::streams::put_stream;
@@ -40,6 +41,32 @@ pub fn put_list_block(
 {
     let lent = first(numbers, n);
     let end = put_list(out, at, text, offset, profile, &mut numbers[..lent]);
+    put_byte(out, end, b'\n')
+}
+
+// A slice of a list without TK_NONE, into as many.
+pub fn put_part_block(
+    out: &mut [u8],
+    at: usize,
+    text: &[u8],
+    offset: usize,
+    profile: Profile,
+    allowance: u32,
+    numbers: &mut [u32],
+    n: usize,
+) -> usize
+    ensures { λ r. ⌜ Within (now (out .exit)) r ⌝ }
+{
+    let lent = first(numbers, n);
+    let end = put_list_part(
+        out,
+        at,
+        text,
+        offset,
+        profile,
+        allowance,
+        &mut numbers[..lent],
+    );
     put_byte(out, end, b'\n')
 }
 

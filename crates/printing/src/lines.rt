@@ -92,6 +92,37 @@ pub(crate) fn put_counted_place(
     put(out, counted, b"\n")
 }
 
+// Behind the offset two numbers end the line: of a list's records, and of the lexemes that were spent.
+pub(crate) fn put_spent(
+    out: &mut [u8],
+    at: usize,
+    offset: usize,
+    records: usize,
+    spent: u32,
+) -> usize
+    ensures { λ r. ⌜ Within (now (out .exit)) r ⌝ }
+{
+    let placed = put_column(out, at, offset);
+    let counted = put_column(out, placed, records);
+    let told = put_column(out, counted, spent as usize);
+    put(out, told, b"\n")
+}
+
+pub(crate) fn put_spent_place(
+    out: &mut [u8],
+    at: usize,
+    start: usize,
+    length: usize,
+    offset: usize,
+    records: usize,
+    spent: u32,
+) -> usize
+    ensures { λ r. ⌜ Within (now (out .exit)) r ⌝ }
+{
+    let spanned = put_span(out, at, start, length);
+    put_spent(out, spanned, offset, records, spent)
+}
+
 pub(crate) fn put_refusal(
     out: &mut [u8],
     at: usize,

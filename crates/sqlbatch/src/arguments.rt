@@ -10,7 +10,7 @@ pub(crate) enum Asked {
 }
 
 enum Number {
-    Of(usize),
+    Of(u32),
     Bad,
 }
 
@@ -31,6 +31,9 @@ fn asked_mode(word: &[u8]) -> Asked {
     if check::same(word, b"list") {
         return asked_list();
     }
+    if check::same(word, b"part") {
+        return asked_part();
+    }
     if check::same(word, b"cut") {
         return with_profile(Mode::Cut, 2);
     }
@@ -50,12 +53,37 @@ fn asked_mode(word: &[u8]) -> Asked {
 }
 
 fn asked_list() -> Asked {
-    let mut buffer = io::buffer();
-    let n = os::arg(2, &mut buffer);
-    let Number::Of(numbers) = decimal(&buffer[..n]) else {
+    let Number::Of(numbers) = asked_numbers() else {
         return Asked::Unknown;
     };
-    with_profile(Mode::List(numbers), 3)
+    with_profile(Mode::List(numbers as usize), 3)
+}
+
+fn asked_part() -> Asked {
+    let Number::Of(numbers) = asked_numbers() else {
+        return Asked::Unknown;
+    };
+    let Number::Of(allowance) = number_at(3) else {
+        return Asked::Unknown;
+    };
+    with_profile(Mode::Part(numbers as usize, allowance), 4)
+}
+
+// How many numbers are lent: no more than a list can fill.
+fn asked_numbers() -> Number {
+    let Number::Of(n) = number_at(2) else {
+        return Number::Bad;
+    };
+    if MOST < n as usize {
+        return Number::Bad;
+    }
+    Number::Of(n)
+}
+
+fn number_at(place: usize) -> Number {
+    let mut buffer = io::buffer();
+    let n = os::arg(place, &mut buffer);
+    decimal(&buffer[..n])
 }
 
 // A word is looked up, and a literal written, the same way under each profile.
@@ -68,7 +96,7 @@ fn without_profile(mode: Mode) -> Asked {
 
 // The profile is the last word, behind so many others, if it is there.
 fn with_profile(mode: Mode, others: usize) -> Asked
-    requires { ⌜ others ≤ 3 ⌝ }
+    requires { ⌜ others ≤ 4 ⌝ }
 {
     let words = os::arg_count();
     if words == others {
@@ -88,7 +116,7 @@ fn with_profile(mode: Mode, others: usize) -> Asked
     Asked::Unknown
 }
 
-// The number that decimal digits say.
+// The number of 32 bits that decimal digits say.
 fn decimal(word: &[u8]) -> Number {
     if word.len() == 0 {
         return Number::Bad;
@@ -104,12 +132,12 @@ fn decimal(word: &[u8]) -> Number {
             return Number::Bad;
         }
         n = 10 * n + digit(b);
-        if MOST < n {
+        if (u32::MAX as usize) < n {
             return Number::Bad;
         }
         i += 1;
     }
-    Number::Of(n)
+    Number::Of(n as u32)
 }
 
 fn digit(b: u8) -> usize

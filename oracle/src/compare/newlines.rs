@@ -34,16 +34,19 @@ pub fn families<'a>(share: u64, seed: u64) -> Vec<Family<'a>> {
     // Room for most of the records, for all of a short text's.
     let most = |piece| Mode::List(10 * WIDTH + piece as usize % (10 * WIDTH));
     let all = |_| Mode::List(8 * WIDTH);
-    let random = Family::new("list: newlines", most, share, |_, r, text| {
-        several(r, text);
-        offset(r, text)
-    });
+    let random = Family::new("list: newlines", most, share, |_, r, text| any(r, text));
     let mut families = vec![random.in_pieces_of(PIECE)];
     let every = |&(name, alphabet): &(&str, &'a [u8])| {
         Family::every(&format!("list: {name}"), all, alphabet, share / 2, seed, true)
     };
     families.extend(ALPHABETS.iter().map(every));
     families
+}
+
+/// Lexemes and ends of lines, and an offset.
+pub fn any(r: &mut Random, text: &mut Vec<u8>) -> usize {
+    several(r, text);
+    offset(r, text)
 }
 
 /// Ends of lines at the text's beginning and end, and lexemes between them that hold some or none.

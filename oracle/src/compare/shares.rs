@@ -1,7 +1,7 @@
 //! How the texts are divided among the modes and families.
 
 use super::families::{Family, Plan};
-use super::{cuts, lists, literals, near, streams, walks, words, written};
+use super::{cuts, lists, literals, near, parts, streams, walks, words, written};
 use crate::second::Profile;
 
 /// About `count` texts under `turso`. Half, and runs of digits besides, are for Next, on which the other calls stand; List and the cut
@@ -11,6 +11,7 @@ use crate::second::Profile;
 /// And scripts of streams, about a seventh of `count`, a twentieth under `sqlite`: most of them short, since each is tried with all that may
 /// follow.
 /// And literals: about a twelfth of `count` to be read, under `sqlite` half as many, and a twenty-eighth to be written.
+/// And lists a slice at a time: about a twenty-fifth of `count`, under `sqlite` a tenth as many.
 pub fn all(plan: Plan) -> Vec<Family> {
     let sqlite = Plan { count: plan.count / 10, profile: Profile::Sqlite, ..plan };
     let mut families: Vec<_> = made(plan).collect();
@@ -22,11 +23,14 @@ pub fn all(plan: Plan) -> Vec<Family> {
     families.extend(literals::families(plan));
     families.extend(literals::families(Plan { count: plan.count / 2, ..sqlite }));
     families.extend(written::families(plan));
+    families.extend(parts::families(Plan { count: plan.count / 20, ..plan }));
+    families.extend(parts::families(Plan { count: sqlite.count / 20, ..sqlite }));
     // A text depends on its family's place in this list. Real SQL is last, so that the others are the same without it.
     if plan.corpus.len() > 0 {
         families.extend(real(plan));
         families.extend(real(sqlite));
         families.extend([streams::real(plan), streams::real(sqlite), literals::real(plan), literals::real(sqlite)]);
+        families.extend([plan, sqlite].map(|plan| parts::real(Plan { count: plan.count / 20, ..plan })));
     }
     families
 }

@@ -1,4 +1,4 @@
--- `sqlbatch::arguments::decimal` is safe: the number stays small. Assumes nothing.
+-- `sqlbatch::arguments::decimal` is safe: the number keeps to 32 bits. Assumes nothing.
 use Prim.Native.Nat.{_≤_, _-_}
 use lib.ListN.{length}
 use borrow.Author.Needs.{needs}
@@ -6,7 +6,7 @@ use Rattle.sqlbatch.proofs.arguments.decimal.Statement.{statement}
 use Rattle.sqlbatch.proofs.arguments.decimal.Tie as tie
 
 abbrev Inv-loop : tie.InvT-loop
-Inv-loop word n₀ i₀ n i = (i ≤ length word) × (n ≤ 327675)
+Inv-loop word n₀ i₀ n i = (i ≤ length word) × (n ≤ 4294967295)
 
 abbrev μ-loop : tie.MeasureT-loop
 μ-loop word n₀ i₀ n i = length word - i
@@ -35,6 +35,9 @@ digit-requires c κs = search needs
 add-n : tie.Need-add-n Inv-loop μ-loop
 add-n c = search needs
 
+cast-if4 : tie.Need-cast-if4 Inv-loop μ-loop
+cast-if4 c = search needs
+
 returns-4 : tie.Need-returns-4 Inv-loop μ-loop
 returns-4 c = search needs
 
@@ -46,6 +49,9 @@ loop-less c = search needs
 
 loop-again : tie.Need-loop-again Inv-loop μ-loop
 loop-again c = search needs
+
+cast-t12 : tie.Need-cast-t12 Inv-loop μ-loop
+cast-t12 c = search needs
 
 returns-5 : tie.Need-returns-5 Inv-loop μ-loop
 returns-5 c = search needs
@@ -64,8 +70,10 @@ decimal-spec =
     mul-n
     digit-requires
     add-n
+    cast-if4
     returns-4
     add-i
     loop-less
     loop-again
+    cast-t12
     returns-5)
