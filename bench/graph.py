@@ -7,11 +7,17 @@ NAME = r'"?([^\s",]+)"?'
 FUNCTION = re.compile(rf"(?m)^\s\.type\s+{NAME},[@%]function")
 JUMP = re.compile(rf"^\s(call\w*|bl|blx|j\w+|b(?:eq|ne|hs|lo|mi|pl|vs|vc|hi|ls|ge|lt|gt|le)?(?:\.[wn])?)\s+{NAME}")
 CALLS = "call", "callq", "bl", "blx"
+# x86-64: what moves the stack pointer, what jumps and where to, and an entry of a table of jumps
+PUSH_OR_POP = re.compile(r"^\s(push|pop)q\s")
+ADD_OR_SUB = re.compile(r"^\s(add|sub)q\s+\$(-?\d+), %rsp$")
+GOES = re.compile(r"^\sj\w+\s+(\S+)")
+TABLE = re.compile(r"^\s\.long\s+(\.L\w+)-\.LJTI")
 
 
 class Function:
     def __init__(self):
         self.frame = 0
+        self.lines = []
         self.below = 0  # x86-64: a function that calls none may use 128 bytes below its stack pointer, which are no part of its frame
         self.calls, self.tail_calls = set(), set()
 
@@ -21,6 +27,36 @@ def unsigned(line):
     kind, value = line.split(None, 1)
     data = ast.literal_eval("b" + value) if kind == ".ascii" else bytes([int(value, 0)])
     return sum((byte & 127) << 7 * i for i, byte in enumerate(data))
+
+
+def moved(line):
+    """x86-64: by how many bytes an instruction moves the stack pointer down."""
+    if found := PUSH_OR_POP.match(line):
+        return 8 if found[1] == "push" else -8
+    found = ADD_OR_SUB.match(line)
+    return int(found[2]) * (1 if found[1] == "sub" else -1) if found else 0
+
+
+def depth(lines):
+    """x86-64: how far a function takes the stack pointer down; what clang states as its frame leaves out the arguments that it pushes for a
+    call. Each instruction is come to by one way through the code: by any other the pointer is the same there."""
+    labels = {line.split(":")[0]: i for i, line in enumerate(lines) if line.startswith(".L")}
+    tables = [labels[found[1]] for found in map(TABLE.match, lines) if found]
+    most, seen, ways = 0, set(), [(0, 0)]
+    while ways:
+        at, deep = ways.pop()
+        while at < len(lines) and at not in seen:
+            seen.add(at)
+            line = lines[at]
+            deep += moved(line)
+            most = max(most, deep)
+            if goes := GOES.match(line):
+                there = tables if goes[1].startswith("*") else [labels[goes[1]]] if goes[1] in labels else []  # a tail call ends the way
+                ways += [(i, deep) for i in there]
+            if line.startswith(("\tjmp", "\tret", "\tud2", ".Lfunc_end")):
+                break
+            at += 1
+    return most
 
 
 def functions(assembly):
@@ -35,6 +71,10 @@ def functions(assembly):
             (now.calls if jump[1] in CALLS else now.tail_calls).add(jump[2])
         elif now:
             now.below = max([now.below] + [int(n) for n in re.findall(r"\s-(\d+)\(%rsp", line)])
+        if now:
+            now.lines.append(line)
+    for function in found.values():
+        function.frame = max(function.frame, depth(function.lines))
     return found
 
 

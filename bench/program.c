@@ -1,6 +1,7 @@
 /* The program that is measured, on x86-64 Linux and on the emulated Cortex-M4 alike. It is compiled once for each lexer, with -DLIST=..
  *   program FILE REPEATS   List of the text, so many times: instructions of one pass = (those of 3 passes - those of 1) / 2; with -DCUTS
- *                          the cut of all its statements; with -DREADS, or -DWRITES, its literals read, or read and written again
+ *                          the cut of all its statements; with -DSLICE=.. its tokens but TK_NONE, in slices of so many lexemes; with
+ *                          -DREADS, or -DWRITES, its literals read, or read and written again
  *   program FILE dump      the records, a line each
  *   program FILE stack     bytes of stack that calls really used; with -DALL_CALLS also those of next and cut
  * A length is 64 bits wide on both machines, since the library has it so. A lexer writes -DRECORD_WIDTH=.. numbers of a token. */
@@ -27,6 +28,21 @@ static uint64_t under_profile(const uint8_t *t, uint64_t n, uint32_t *l, uint64_
     uint64_t count = 0;
     for (uint64_t at = 0; sqllex_cut(t, n, at, PROFILE, answer) == CUT; count++)
         at = answer[3];
+    return count;
+}
+#elif defined SLICE
+/* In List's place its slices, each with the rest of the list. */
+uint32_t sqllex_list_part(const uint8_t *t, uint64_t n, uint64_t at, uint32_t profile, uint32_t allowance, uint32_t *l, uint64_t c,
+                          uint64_t *slice);
+enum { PAUSED = 105 };
+static uint64_t under_profile(const uint8_t *t, uint64_t n, uint32_t *l, uint64_t c)
+{
+    uint64_t count = 0, slice[7] = {0};
+    uint32_t status;
+    do {
+        status = sqllex_list_part(t, n, slice[3], PROFILE, SLICE, record(l, count), c - RECORD_WIDTH * count, slice);
+        count += slice[0];
+    } while (status == PAUSED);
     return count;
 }
 #elif defined READS || defined WRITES

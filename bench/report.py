@@ -10,11 +10,11 @@ from machines import M4, OUT, X86, Missing, run
 from packets import above, figures as in_parts, same_tokens
 from readings import a_step, code, figures, same_lexemes
 from space import linked, sizes, stacks
-from speed import cuts, growth, instructions, length, profile, same_lists, total
+from speed import cuts, growth, instructions, length, profile, same_lists, slices, total
 
 MOST_STACK = 768  # bytes
 MOST_LOOKUP = 2400  # bytes
-MOST_INSTRUCTIONS = {X86: 53.3, M4: 66}  # a byte
+MOST_INSTRUCTIONS = {X86: 55.8, M4: 69}  # a byte
 MOST_OF_STRING = 9  # instructions a byte
 MOST_GROWTH = 1  # percent from linear
 MOST_STEP = 30  # instructions
@@ -74,6 +74,8 @@ def main():
     part("Instructions a byte, Cortex-M4", instructions, M4, ours if UNPROVED else [*ours, "Rust", "SQLite"])
     for machine in X86, M4:
         part(f"The cut of all statements, instructions a byte of the text sync, {machine.name}", cuts, machine)
+    for machine in X86, M4:
+        part(f"A list without TK_NONE, in slices, instructions a byte of the text sync, {machine.name}", slices, machine)
     part("The walk by step", same_lexemes)
     for machine in X86, M4:
         part(f"The walk by step, instructions of the text sync, {machine.name}", figures, machine)

@@ -6,7 +6,7 @@ from lexers import compile_library, program
 from machines import OUT, Missing, output_of
 from speed import KINDS_OF_TEXT, present, text
 
-ENTRIES = "sqllex_next", "sqllex_list", "sqllex_list_from", "sqllex_cut"
+ENTRIES = "sqllex_next", "sqllex_list", "sqllex_list_from", "sqllex_list_part", "sqllex_cut"
 STREAM_ENTRIES = "sqllex_stream_begin", "sqllex_stream_offer", "sqllex_stream_finish"
 LITERAL_ENTRIES = tuple(f"sqllex_{call}_{kind}" for call in ("read", "write") for kind in ("integer", "string", "name", "blob"))
 ALL_ENTRIES = *ENTRIES, *STREAM_ENTRIES, *LITERAL_ENTRIES
@@ -42,6 +42,8 @@ def stacks(machine):
         size, chain = bounds.get(entry, (None, []))
         figure = lambda n: f"{n:,}" if n else "-"
         print(f"{entry:22} bound {figure(size):>5}  used {figure(used.get(entry)):>5}   {' > '.join(chain)}".rstrip())
+        if size and used.get(entry, 0) > size:
+            raise SystemExit(f"bench: FAIL: {entry} used more stack than its bound")
     if unknown := graph.elsewhere(functions(machine)):
         raise SystemExit(f"bench: FAIL: there is no bound on the stack, since these are not in the library: {', '.join(sorted(unknown))}")
     largest = lambda some: max(bounds[entry][0] for entry in some)

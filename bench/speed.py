@@ -1,4 +1,4 @@
-"""Instructions: of the three lexers a byte, of List by function, and how List grows."""
+"""Instructions: of the three lexers a byte, of the cut and of List's slices, of List by function, and how List grows."""
 import bisect
 import functools
 import re
@@ -7,6 +7,7 @@ from lexers import OWN_WIDTH, WIDTH, program, width
 from machines import M4, OUT, ROOT, X86, Missing, one_pass, output_of, run
 
 KINDS_OF_TEXT = "sync", "keywords", "names", "floats", "operators", "string"
+SLICES = "one slice", "slices of 1,024", "slices of 64"  # of so many lexemes
 
 
 def text(name):
@@ -114,6 +115,15 @@ def cuts(machine):
     if found != sum(line.startswith("3 ") for line in records(machine, "List", "sync")):
         raise SystemExit(f"bench: FAIL: {found} statements were cut, not one for each TK_SEMI")
     print(f"{total(machine, 'cut', 'sync') / length('sync'):.2f}")
+
+
+def slices(machine):
+    """However a text is sliced, the records are List's but for TK_NONE, or what they cost would say nothing."""
+    tokens = [line for line in records(machine, "List", "sync") if not line.startswith("0 ")]
+    for lexer in SLICES:
+        if output_of(machine, program(machine, lexer), text("sync"), "dump").splitlines() != tokens:
+            raise SystemExit(f"bench: FAIL: {lexer} and List wrote different records of the text sync")
+        print(f"{lexer:16}{total(machine, lexer, 'sync') / length('sync'):8.2f}  {len(tokens):,} records")
 
 
 def growth():

@@ -1,29 +1,31 @@
 /*
- * sqllex.h: a SQL lexer for C and C++. examples/tokens.c calls sqllex_list_from, examples/stream.c lexes a text in small parts,
- * examples/settings.c reads the literals of such a text as they arrive, and examples/tokens.rs calls sqllex_next from Rust.
+ * sqllex.h: a SQL lexer for C and C++. examples/tokens.c calls sqllex_list_from, examples/slices.c lists a text a slice at a time,
+ * examples/stream.c lexes a text in small parts, examples/settings.c reads the literals of such a text as they arrive, and
+ * examples/tokens.rs calls sqllex_next from Rust.
  *
  * Declares the calls of target/staticlib/libcapi.a, which `rt staticlib capi` proves and builds from crates/capi. The archive is
  * code for x86-64 Linux, needs no other library, and follows that system's calling convention, SSE registers and the red zone
  * included. tests/header fails where this file and the code part ways.
  *
  * What every call does. It returns, whatever the bytes; a text may hold any bytes, zeros too, and needs no zero behind it. It reads
- * the text alone, and writes only the list's first numbers and the answer, as said below; a call of a stream reads the stream, the
- * row and the part alone, and writes only the stream, the row and what is given; one that reads or writes a literal reads the text or
- * the value alone, and writes only the buffer's first bytes and where the value or the count goes. It uses no heap, no variable of its
- * own outside the stack and no call of the system, so that any number of threads may call at once, on one text too, each with its own
- * list and answer, its own stream, row and place for what is given, or its own buffer and place for a value or a count.
+ * the text alone, and writes only the list's first numbers and the answer or the slice, as said below; a call of a stream reads the
+ * stream, the row and the part alone, and writes only the stream, the row and what is given; one that reads or writes a literal reads
+ * the text or the value alone, and writes only the buffer's first bytes and where the value or the count goes. It uses no heap, no
+ * variable of its own outside the stack and no call of the system, so that any number of threads may call at once, on one text too,
+ * each with its own list and answer or slice, its own stream, row and place for what is given, or its own buffer and place for a value
+ * or a count.
  *
  * What a caller owes. Nothing tests these: a call that breaks one has no meaning.
  * - A text, a part of one, a word, a value's bytes or a buffer is two arguments, where its first byte is and how many bytes there are;
  *   a list as well, where its length is the number of its uint32_t (not of bytes, not of records). So many must be there, in one
  *   object that lives until the call returns. With a length of 0 nothing is read or written there, and the pointer may be null.
  * - A row has SQLLEX_ROW_LENGTH bytes.
- * - A list and a stream are aligned as uint32_t is, an answer, what is given and a count as size_t is, a value as int64_t is; an
- *   answer, a stream, a row, what is given, `value` of sqllex_read_integer and `bytes` are never null. None needs values beforehand,
- *   but that a stream is begun first.
- * - Text, list and answer of one call do not overlap, nor do stream, row, part and what is given, nor do text or value, buffer, and
- *   where the value or the count goes; and nobody else writes to them while it runs: no thread, interrupt or DMA.
- * - An offset may be any number, and so may a span's start and length. One past the end is refused and reads nothing.
+ * - A list and a stream are aligned as uint32_t is, an answer, a slice, what is given and a count as size_t is, a value as int64_t is;
+ *   an answer, a slice, a stream, a row, what is given, `value` of sqllex_read_integer and `bytes` are never null. None needs values
+ *   beforehand, but that a stream is begun first.
+ * - Text, list and answer or slice of one call do not overlap, nor do stream, row, part and what is given, nor do text or value,
+ *   buffer, and where the value or the count goes; and nobody else writes to them while it runs: no thread, interrupt or DMA.
+ * - An offset may be any number, and so may an allowance, and a span's start and length. One past the end is refused and reads nothing.
  * - A profile may be any number. With one that is neither of the two below nothing is read or written.
  * - Stream and row are the caller's, who leaves both as they are between the calls of one text. A call that finds other numbers or
  *   bytes in them has a meaning still: it does what every call does, but its answer says nothing of a text.
@@ -40,17 +42,23 @@
 /*
  * What a call says beside its status. With SQLLEX_UNKNOWN_PROFILE and SQLLEX_UNKNOWN_STREAM a call writes none of the six, with any
  * other status all. `start` and `length` are a span of the text in bytes; places count from the text's first byte, wherever lexing
- * began, and of a stream from the first byte of all parts. `next` is the offset to go on from after a find or a full list; after a
- * refusal see each call. `digits` and `underscores` are those of a number that sqllex_next or a stream finds; else both are 0.
+ * began, and of a stream from the first byte of all parts. `next` is the offset to go on from after a find, a full list or a pause;
+ * after a refusal see each call. `digits` and `underscores` are those of a number that sqllex_next or a stream finds; else both are 0.
  */
 typedef struct sqllex_answer {
-    size_t value; /* the kind (next, a stream), the number of records (list_from), whether tokens came (cut) */
+    size_t value; /* the kind (next, a stream), the number of records (list_from, list_part), whether tokens came (cut) */
     size_t start;
     size_t length;
     size_t next;
     size_t digits;
     size_t underscores;
 } sqllex_answer;
+
+/* What sqllex_list_part says beside its status: an answer, and how many lexemes it passed, those without a record among them. */
+typedef struct sqllex_slice {
+    sqllex_answer answer;
+    size_t spent;
+} sqllex_slice;
 
 /* What a call of a stream says beside its status: an answer, and how many bytes of the part it took, from the first on. */
 typedef struct sqllex_given {
@@ -86,11 +94,13 @@ typedef struct sqllex_record {
 
 #if defined(__cplusplus) && __cplusplus >= 201103L
 static_assert(sizeof(sqllex_answer) == 48, "the library's answers are six words of 8 bytes");
+static_assert(sizeof(sqllex_slice) == 56, "the library's slices are seven words of 8 bytes");
 static_assert(sizeof(sqllex_given) == 56, "what a stream gives is seven words of 8 bytes");
 static_assert(sizeof(sqllex_stream) == 24, "the library's streams are six words of 4 bytes");
 static_assert(sizeof(sqllex_record) == 20, "the library's records are five words of 4 bytes");
 #elif defined(__STDC_VERSION__) && __STDC_VERSION__ >= 201112L
 _Static_assert(sizeof(sqllex_answer) == 48, "the library's answers are six words of 8 bytes");
+_Static_assert(sizeof(sqllex_slice) == 56, "the library's slices are seven words of 8 bytes");
 _Static_assert(sizeof(sqllex_given) == 56, "what a stream gives is seven words of 8 bytes");
 _Static_assert(sizeof(sqllex_stream) == 24, "the library's streams are six words of 4 bytes");
 _Static_assert(sizeof(sqllex_record) == 20, "the library's records are five words of 4 bytes");
@@ -115,7 +125,7 @@ _Static_assert(sizeof(sqllex_record) == 20, "the library's records are five word
 
 /*
  * Statuses: 0, nothing is left; 1 to 99, a refusal, 99 that of a number that is no profile's, 98 that of six numbers that are no
- * stream's; 100 to 102, a find; 103, a stream wants more bytes; 104, a literal was read or written.
+ * stream's; 100 to 102, a find; 103, a stream wants more bytes; 104, a literal was read or written; 105, a list paused.
  */
 #define SQLLEX_END 0u
 #define SQLLEX_UNRECOGNIZED_TOKEN 1u
@@ -140,8 +150,9 @@ _Static_assert(sizeof(sqllex_record) == 20, "the library's records are five word
 #define SQLLEX_OPEN 102u
 #define SQLLEX_MORE 103u
 #define SQLLEX_DONE 104u
+#define SQLLEX_PAUSED 105u
 
-/* The longest text that list and list_from take, in bytes. next and cut take any. */
+/* The longest text that list, list_from and list_part take, in bytes. next and cut take any. */
 #define SQLLEX_LONGEST_TEXT 65535u
 
 /* How many numbers a record of a list has, those of sqllex_record. So many for each byte of the text are always enough. */
@@ -429,6 +440,38 @@ uint32_t sqllex_list_from(const uint8_t *text, size_t text_length, size_t offset
  * no profile's.
  */
 uint64_t sqllex_list(const uint8_t *text, size_t text_length, uint32_t profile, uint32_t *list, size_t list_length);
+
+/*
+ * The tokens of a text from an offset on but those of kind SQLLEX_TK_NONE, a slice at a time: for a caller with something else to do in
+ * between. A call passes as many lexemes as `allowance` says and no more, blanks and comments counted; each that is no SQLLEX_TK_NONE
+ * gets a record, the one that sqllex_list_from writes of it. `spent` says how many it passed.
+ *
+ *     status                   value    start        length       next                          spent
+ *     SQLLEX_END               records  text_length  0            text_length                   lexemes passed
+ *     1 to 7                   records  of the span  of the span  as sqllex_next's there        lexemes passed
+ *     SQLLEX_OFFSET_PAST_END   0        0            0            offset                        0
+ *     SQLLEX_TOO_LONG          0        0            0            offset                        0
+ *     SQLLEX_PAUSED            records  next         0            of the lexeme that is next    allowance
+ *     SQLLEX_LIST_FULL         records  next         0            of the token without a place  less than allowance
+ *     SQLLEX_UNKNOWN_PROFILE   nothing is written
+ *
+ * SQLLEX_PAUSED comes exactly where the allowance is spent and another legal lexeme follows, which may be a blank: the end and a refusal
+ * come before it, and it comes before SQLLEX_LIST_FULL. It is no refusal. Call again from `next` with the same profile, with the list's
+ * records taken out, or with the rest of the list behind them: joined, the records are those of one call with a greater allowance. (An
+ * allowance of 0 passes nothing and only asks what is there: with it this would not end.)
+ *
+ * SQLLEX_LIST_FULL comes only where a token that is no SQLLEX_TK_NONE is next and fewer than SQLLEX_RECORD_WIDTH numbers are left; blanks
+ * and comments pass a full list. That token is not spent: take the records out, and call again from `next`, as after sqllex_list_from,
+ * with a new allowance or with what is left of this one.
+ *
+ * SQLLEX_TOO_LONG, for a text of more than SQLLEX_LONGEST_TEXT bytes, comes before any other but SQLLEX_UNKNOWN_PROFILE.
+ *
+ * Lines are counted from the text's beginning in each call: what lies before the offset is gone through once for them, which costs some
+ * instructions for each of its bytes (docs/PERFORMANCE.md has how many, where it speaks of a list from a later offset). So the slices of
+ * a long text should not be tiny.
+ */
+uint32_t sqllex_list_part(const uint8_t *text, size_t text_length, size_t offset, uint32_t profile, uint32_t allowance, uint32_t *list,
+                          size_t list_length, sqllex_slice *slice);
 
 /* Record i of a list that has more than i of them. This is no call of the library. */
 static inline sqllex_record sqllex_record_at(const uint32_t *list, size_t i)

@@ -1,7 +1,7 @@
 /*
  * calls.c: every call of include/sqllex.h, with all that it is lent beside a page that cannot be touched. tests/library runs it.
  *
- * calls PLACE next|sums|list N|cut [turso|sqlite]  reads records as sqlbatch does, and prints what sqlbatch prints of them
+ * calls PLACE next|sums|list N|part N A|cut [turso|sqlite]  reads records as sqlbatch does, and prints what sqlbatch prints of them
  * calls PLACE stream [turso|sqlite]                the same, of records that are scripts of a stream's calls
  * calls PLACE literal [turso|sqlite]               the same, of records that are a span to be read and a buffer's length
  * calls PLACE write                                the same, of records whose offset is a buffer's length
@@ -9,11 +9,11 @@
  * calls PLACE replay                               prints what the program replay prints of them
  * calls PLACE edges                                tries the calls that stand below with their answers
  *
- * PLACE, front or back, says where a text, list, answer, stream, row, buffer, value or count lies in its room between two such pages: at
- * its beginning or at its end. In every mode what a call must leave alone is seen to be as it was: the bytes beside all that is written,
- * the list's numbers behind the records, the row's bytes behind those held, a value or a count that is not set, and the text or part,
- * which cannot be written. And the records of every list are seen to lie one behind the other, each with the line and column that the
- * text's bytes give.
+ * PLACE, front or back, says where a text, list, answer, slice, stream, row, buffer, value or count lies in its room between two such
+ * pages: at its beginning or at its end. In every mode what a call must leave alone is seen to be as it was: the bytes beside all that is
+ * written, the list's numbers behind the records, the row's bytes behind those held, a value or a count that is not set, and the text or
+ * part, which cannot be written. And the records of every list are seen to lie one behind the other, those of a slice with nothing but
+ * blanks between them, each with the line and column that the text's bytes give.
  */
 #define _DEFAULT_SOURCE
 #include <stdio.h>
@@ -57,7 +57,7 @@ struct room {
     unsigned char *bytes;
     size_t size;
 };
-static struct room text_room, list_room, answer_room, stream_room, row_room, given_room;
+static struct room text_room, list_room, answer_room, slice_room, stream_room, row_room, given_room;
 static bool at_back;
 
 static struct room make_room(size_t size)
@@ -148,32 +148,51 @@ static uint32_t call_cut(size_t offset, sqllex_answer *said)
 }
 
 /*
- * The records of a list from an offset on: tokens one behind the other, each with the line and the column of its first byte. These are
- * counted here byte by byte, from the text's first on.
+ * The records of tokens that lie one behind the other: each has the line and the column of its first byte. These are counted here byte by
+ * byte, from the text's first on.
  */
-static void look_at_records(size_t offset, const uint32_t *list, size_t records)
+static void look_at_lines(const uint32_t *list, size_t records)
 {
-    size_t at = 0, end = offset;
+    size_t at = 0;
     uint32_t line = 1, column = 1;
-    require(records == 0 || offset <= text_length, "records from behind the text");
     for (size_t i = 0; i < records; i++) {
         sqllex_record record = sqllex_record_at(list, i);
         require(memcmp(&record, list + i * RECORD_WIDTH, sizeof record) == 0, "sqllex_record_at reads otherwise");
-        require(record.kind < SQLLEX_KINDS_COUNT, "a record with a kind that is none");
-        require(record.start == end && record.length > 0 && record.length <= text_length - end, "a record that lies elsewhere");
         for (; at < record.start; at++) {
             line += text[at] == '\n';
             column = text[at] == '\n' ? 1 : column + 1;
         }
         require(record.line == line && record.column == column, "a record with another line or column");
+    }
+}
+
+/* The records of a list from an offset on: tokens without a gap. */
+static void look_at_records(size_t offset, const uint32_t *list, size_t records)
+{
+    size_t end = offset;
+    require(records == 0 || offset <= text_length, "records from behind the text");
+    for (size_t i = 0; i < records; i++) {
+        sqllex_record record = sqllex_record_at(list, i);
+        require(record.kind < SQLLEX_KINDS_COUNT, "a record with a kind that is none");
+        require(record.start == end && record.length > 0 && record.length <= text_length - end, "a record that lies elsewhere");
         end += record.length;
     }
+    look_at_lines(list, records);
+}
+
+static const char beside_list[] = "a byte beside the list was written";
+
+/* Behind the records of a list all is as it was. */
+static void look_behind(const uint32_t *list, size_t records, size_t length)
+{
+    require(records <= length / RECORD_WIDTH, "more records than have room");
+    for (size_t i = RECORD_WIDTH * records; i < length; i++)
+        require(list[i] == OLD, "a number behind the records was written");
 }
 
 /* A list from offset 0 is asked of both calls, which must write the same. */
 static uint32_t call_list(size_t offset, size_t length, uint32_t **list, sqllex_answer *said)
 {
-    static const char beside_list[] = "a byte beside the list was written";
     static uint32_t first[LIST_MOST];
     size_t size = length * sizeof(uint32_t);
     uint64_t records = 0;
@@ -192,11 +211,65 @@ static uint32_t call_list(size_t offset, size_t length, uint32_t **list, sqllex_
         require(records == said->value, "sqllex_list and sqllex_list_from count otherwise");
         require(memcmp(first, *list, size) == 0, "sqllex_list and sqllex_list_from write otherwise");
     }
-    require(said->value <= length / RECORD_WIDTH, "more records than have room");
+    look_behind(*list, said->value, length);
     require(status != SQLLEX_LIST_FULL || said->value == length / RECORD_WIDTH, "a full list with room for a record");
-    for (size_t i = RECORD_WIDTH * said->value; i < length; i++)
-        require((*list)[i] == OLD, "a number behind the records was written");
     look_at_records(offset, *list, said->value);
+    return status;
+}
+
+/*
+ * What a slice says by sqllex_next, called from lexeme to lexeme: so many are spent, those that are no blanks have the records, and what
+ * is behind them is told as it is there.
+ */
+static void look_at_slice(size_t offset, uint32_t allowance, size_t length, const uint32_t *list, uint32_t status,
+                          const sqllex_slice *said)
+{
+    const sqllex_answer *answer = &said->answer;
+    sqllex_answer there;
+    size_t records = 0;
+    for (size_t i = 0; i < said->spent; i++) {
+        require(call_next(offset, &there) == SQLLEX_TOKEN, "a lexeme was spent that is none");
+        if (there.value != SQLLEX_TK_NONE) {
+            require(records < answer->value, "a token without a record");
+            sqllex_record record = sqllex_record_at(list, records++);
+            require(record.kind == there.value && record.start == there.start && record.length == there.length,
+                    "a record of another token");
+        }
+        offset = there.next;
+    }
+    require(records == answer->value, "a record of no token");
+    look_at_lines(list, records);
+    uint32_t next = call_next(offset, &there);
+    if (next != SQLLEX_TOKEN) {
+        require(status == next, "a slice that ends otherwise than its lexemes");
+        require(answer->start == there.start && answer->length == there.length && answer->next == there.next, "a slice that ends elsewhere");
+        return;
+    }
+    require(answer->start == offset && answer->length == 0 && answer->next == offset, "a slice that does not stop where it stops");
+    if (said->spent == allowance) {
+        require(status == SQLLEX_PAUSED, "no pause, and the allowance is spent");
+        return;
+    }
+    require(status == SQLLEX_LIST_FULL, "a slice that stops before its allowance is spent");
+    require(there.value != SQLLEX_TK_NONE && records == length / RECORD_WIDTH, "a full list with room");
+}
+
+static uint32_t call_part(size_t offset, uint32_t allowance, size_t length, uint32_t **list, sqllex_slice *said)
+{
+    size_t size = length * sizeof(uint32_t);
+    sqllex_slice *slice = unset(slice_room, sizeof *slice);
+    *list = unset(list_room, size);
+    uint32_t status = sqllex_list_part(text, text_length, offset, profile, allowance, *list, length, slice);
+    *said = *slice;
+    look_beside(slice, sizeof *slice, "a byte beside the slice was written");
+    look_beside(*list, size, beside_list);
+    look_behind(*list, said->answer.value, length);
+    require(said->spent <= allowance && said->answer.value <= said->spent, "more was spent than is allowed, or less than was listed");
+    require(said->answer.digits == 0 && said->answer.underscores == 0, "digits or underscores of a slice");
+    if (text_length > SQLLEX_LONGEST_TEXT)
+        require(status == SQLLEX_TOO_LONG && said->spent == 0, "a slice of a text that is too long");
+    else
+        look_at_slice(offset, allowance, length, *list, status, said);
     return status;
 }
 
@@ -435,10 +508,31 @@ static void print_sums(size_t offset)
 }
 
 static size_t list_length;
+static uint32_t slice_allowance;
 
 static void print_one_list(size_t offset)
 {
     print_list(offset, list_length);
+}
+
+/* Paused is printed as a refusal is. */
+static void print_slice(size_t offset)
+{
+    sqllex_slice said;
+    uint32_t *list;
+    uint32_t status = call_part(offset, slice_allowance, list_length, &list, &said);
+    for (size_t i = 0; i < list_length; i++)
+        printf("%s%lu", i > 0 ? " " : "", (unsigned long)list[i]);
+    printf("\n");
+    if (status == SQLLEX_END) {
+        look_at_end(&said.answer);
+        printf("END\t%zu", said.answer.next);
+    } else if (status == SQLLEX_PAUSED) {
+        printf("Paused\t%zu\t%zu\t%zu", said.answer.start, said.answer.length, said.answer.next);
+    } else {
+        print_refusal(status, &said.answer);
+    }
+    printf("\t%zu\t%lu\n\n", said.answer.value, (unsigned long)said.spent);
 }
 
 static void print_word(size_t offset)
@@ -586,6 +680,7 @@ static void expect(int line, uint32_t got, const sqllex_answer *said, uint32_t s
 }
 
 static sqllex_answer said;
+static sqllex_slice sliced;
 static uint32_t *list;
 #define TEXT(literal) set_text(literal, sizeof literal - 1)
 #define NEXT(offset, ...) expect(__LINE__, call_next(offset, &said), &said, __VA_ARGS__)
@@ -593,7 +688,21 @@ static uint32_t *list;
 #define CUT(offset, ...) expect(__LINE__, call_cut(offset, &said), &said, __VA_ARGS__)
 #define LIST(offset, length, ...) expect(__LINE__, call_list(offset, length, &list, &said), &said, __VA_ARGS__)
 
-/* The list of the last LIST is these records: kind, start, length, line, column. What is behind them LIST has looked at. */
+/* A slice, with what is spent behind the rest. */
+#define PART(offset, allowance, length, ...) \
+    expect_slice(__LINE__, call_part(offset, allowance, length, &list, &sliced), __VA_ARGS__)
+
+static void expect_slice(int line, uint32_t got, uint32_t status, size_t value, size_t start, size_t length, size_t next, size_t spent)
+{
+    said = sliced.answer;
+    expect(line, got, &said, status, value, start, length, next);
+    if (sliced.spent == spent)
+        return;
+    fprintf(stderr, "calls: line %d: %zu lexemes were spent\n", line, sliced.spent);
+    exit(1);
+}
+
+/* The list of the last LIST or PART is these records: kind, start, length, line, column. What is behind them these have looked at. */
 #define RECORDS(...) expect_records(__LINE__, (const uint32_t[]){__VA_ARGS__}, sizeof((const uint32_t[]){__VA_ARGS__}))
 #define ROOM (6 * RECORD_WIDTH - 1) /* for as many records as any of these lists has, and some numbers */
 
@@ -757,6 +866,150 @@ static void try_offsets(void)
     }
 }
 
+/* A slice: every status, and which of several comes. */
+static void try_part(void)
+{
+    TEXT("a b;");
+    PART(0, 9, ROOM, SQLLEX_END, 3, 4, 0, 4, 4);
+    RECORDS(SQLLEX_TK_ID, 0, 1, 1, 1, SQLLEX_TK_ID, 2, 1, 1, 3, SQLLEX_TK_SEMI, 3, 1, 1, 4);
+    PART(0, 4, ROOM, SQLLEX_END, 3, 4, 0, 4, 4); /* the end comes before a pause */
+    PART(0, UINT32_MAX, ROOM, SQLLEX_END, 3, 4, 0, 4, 4);
+    PART(0, 3, ROOM, SQLLEX_PAUSED, 2, 3, 0, 3, 3);
+    RECORDS(SQLLEX_TK_ID, 0, 1, 1, 1, SQLLEX_TK_ID, 2, 1, 1, 3);
+    PART(0, 1, ROOM, SQLLEX_PAUSED, 1, 1, 0, 1, 1); /* before a blank too */
+    PART(1, 1, ROOM, SQLLEX_PAUSED, 0, 2, 0, 2, 1);
+    PART(3, 1, ROOM, SQLLEX_END, 1, 4, 0, 4, 1);
+    PART(4, 9, ROOM, SQLLEX_END, 0, 4, 0, 4, 0);
+    PART(5, 9, ROOM, SQLLEX_OFFSET_PAST_END, 0, 0, 0, 5, 0);
+    PART(SIZE_MAX, UINT32_MAX, ROOM, SQLLEX_OFFSET_PAST_END, 0, 0, 0, SIZE_MAX, 0);
+    /* a pause comes before a full list */
+    PART(0, 3, 2 * RECORD_WIDTH, SQLLEX_PAUSED, 2, 3, 0, 3, 3);
+    PART(0, 4, 2 * RECORD_WIDTH, SQLLEX_LIST_FULL, 2, 3, 0, 3, 3);
+    PART(0, UINT32_MAX, 2 * RECORD_WIDTH - 1, SQLLEX_LIST_FULL, 1, 2, 0, 2, 2);
+    PART(2, 1, 0, SQLLEX_LIST_FULL, 0, 2, 0, 2, 0);
+    PART(4, 1, 0, SQLLEX_END, 0, 4, 0, 4, 0);
+    /* a refusal before both, also where its lexeme is the first */
+    TEXT("a;!");
+    PART(0, 2, 2 * RECORD_WIDTH, SQLLEX_EXPECTED_EQUALS_SIGN, 2, 2, 1, 2, 2);
+    PART(0, 3, 2 * RECORD_WIDTH, SQLLEX_EXPECTED_EQUALS_SIGN, 2, 2, 1, 2, 2);
+    PART(0, 1, ROOM, SQLLEX_PAUSED, 1, 1, 0, 1, 1);
+    PART(2, 0, 0, SQLLEX_EXPECTED_EQUALS_SIGN, 0, 2, 1, 2, 0);
+    TEXT("a\vb c");
+    PART(0, 1, RECORD_WIDTH, SQLLEX_UNRECOGNIZED_TOKEN, 1, 1, 2, 3, 1);
+    TEXT(" 'b");
+    PART(0, 5, 0, SQLLEX_UNTERMINATED_LITERAL, 0, 1, 2, 1, 1);
+    TEXT("a 12_x");
+    PART(1, 1, 0, SQLLEX_BAD_NUMBER, 0, 3, 2, 2, 1);
+    TEXT("a 1.5a");
+    PART(1, 1, 0, SQLLEX_BAD_FRACTIONAL_PART, 0, 3, 2, 2, 1);
+    TEXT("a 1e+");
+    PART(1, 1, 0, SQLLEX_BAD_EXPONENT_PART, 0, 3, 2, 2, 1);
+    TEXT("a 0x");
+    PART(1, 1, 0, SQLLEX_MALFORMED_HEX_INTEGER, 0, 2, 2, 2, 1);
+}
+
+/* An allowance of 0 passes nothing: the end, a refusal or a pause. */
+static void try_no_allowance(void)
+{
+    TEXT("");
+    PART(0, 0, 0, SQLLEX_END, 0, 0, 0, 0, 0);
+    PART(1, 0, ROOM, SQLLEX_OFFSET_PAST_END, 0, 0, 0, 1, 0);
+    TEXT("a {");
+    PART(0, 0, ROOM, SQLLEX_PAUSED, 0, 0, 0, 0, 0);
+    PART(0, 0, 0, SQLLEX_PAUSED, 0, 0, 0, 0, 0);
+    PART(1, 0, ROOM, SQLLEX_PAUSED, 0, 1, 0, 1, 0);
+    PART(2, 0, ROOM, SQLLEX_UNRECOGNIZED_TOKEN, 0, 2, 1, 3, 0);
+    PART(3, 0, ROOM, SQLLEX_END, 0, 3, 0, 3, 0);
+    PART(4, 0, 0, SQLLEX_OFFSET_PAST_END, 0, 0, 0, 4, 0);
+}
+
+/* Blanks and comments have no record, pass a full list, and are spent. */
+static void try_blanks(void)
+{
+    TEXT(" /**/ --");
+    PART(0, 9, 0, SQLLEX_END, 0, 8, 0, 8, 4);
+    PART(0, 9, ROOM, SQLLEX_END, 0, 8, 0, 8, 4);
+    PART(0, 3, 0, SQLLEX_PAUSED, 0, 6, 0, 6, 3);
+    TEXT("\na -- b\n/*\n*/ c");
+    PART(0, 9, 2 * RECORD_WIDTH, SQLLEX_END, 2, 15, 0, 15, 7);
+    RECORDS(SQLLEX_TK_ID, 1, 1, 2, 1, SQLLEX_TK_ID, 14, 1, 4, 4);
+    PART(0, 9, RECORD_WIDTH, SQLLEX_LIST_FULL, 1, 14, 0, 14, 6);
+    RECORDS(SQLLEX_TK_ID, 1, 1, 2, 1);
+    PART(0, 6, RECORD_WIDTH, SQLLEX_PAUSED, 1, 14, 0, 14, 6);
+    PART(0, 5, RECORD_WIDTH, SQLLEX_PAUSED, 1, 13, 0, 13, 5);
+    PART(0, 9, RECORD_WIDTH - 1, SQLLEX_LIST_FULL, 0, 1, 0, 1, 1);
+    PART(14, 9, RECORD_WIDTH, SQLLEX_END, 1, 15, 0, 15, 1);
+    RECORDS(SQLLEX_TK_ID, 14, 1, 4, 4);
+    TEXT("a  ");
+    PART(0, 9, RECORD_WIDTH, SQLLEX_END, 1, 3, 0, 3, 2);
+    TEXT("a {");
+    PART(0, 9, RECORD_WIDTH, SQLLEX_UNRECOGNIZED_TOKEN, 1, 2, 1, 3, 2);
+}
+
+/* The records of a text from an offset on, those of blanks left out, and how their list ends: by one call of sqllex_list_from. */
+static uint32_t kept[LIST_MOST];
+static size_t kept_count, lexeme_count;
+
+static uint32_t keep_list(size_t offset, sqllex_answer *end)
+{
+    uint32_t status = call_list(offset, text_length * RECORD_WIDTH, &list, end);
+    kept_count = 0;
+    lexeme_count = end->value;
+    for (size_t i = 0; i < lexeme_count; i++)
+        if (sqllex_record_at(list, i).kind != SQLLEX_TK_NONE)
+            memcpy(kept + RECORD_WIDTH * kept_count++, list + RECORD_WIDTH * i, sizeof(sqllex_record));
+    return status;
+}
+
+/*
+ * Slices of one allowance, each from where the last stopped, in lists that may run full: joined, their records are those that are kept,
+ * they spend each lexeme once, and they end as that list does. Where none runs full, every slice but the last spends its allowance.
+ */
+static void try_slices(size_t offset, uint32_t allowance, size_t length, uint32_t status, const sqllex_answer *end)
+{
+    size_t records = 0, spent = 0;
+    uint32_t got;
+    do {
+        got = call_part(offset, allowance, length, &list, &sliced);
+        require(records + sliced.answer.value <= kept_count, "slices with more records than one list");
+        require(memcmp(kept + RECORD_WIDTH * records, list, sliced.answer.value * sizeof(sqllex_record)) == 0,
+                "slices with other records than one list");
+        require(got != SQLLEX_PAUSED || sliced.spent == allowance, "a pause before the allowance is spent");
+        require(length / RECORD_WIDTH < allowance || got != SQLLEX_LIST_FULL, "a full list with room for the allowance");
+        records += sliced.answer.value;
+        spent += sliced.spent;
+        offset = sliced.answer.next;
+    } while (got == SQLLEX_PAUSED || got == SQLLEX_LIST_FULL);
+    require(records == kept_count && spent == lexeme_count, "slices that list or spend otherwise than one list");
+    require(got == status && sliced.answer.start == end->start && sliced.answer.length == end->length && sliced.answer.next == end->next,
+            "slices that end otherwise than one list");
+}
+
+/* Every allowance up to more than all lexemes, with lists that have room for all of them, for one, for some, and one slice for all. */
+static void try_allowances(size_t offset)
+{
+    sqllex_answer end;
+    uint32_t status = keep_list(offset, &end);
+    for (uint32_t allowance = 1; allowance <= lexeme_count + 1; allowance++) {
+        try_slices(offset, allowance, allowance * RECORD_WIDTH, status, &end);
+        try_slices(offset, allowance, RECORD_WIDTH, status, &end);
+        try_slices(offset, allowance, 3 * RECORD_WIDTH + 2, status, &end);
+    }
+    require(call_part(offset, UINT32_MAX, kept_count * RECORD_WIDTH, &list, &sliced) == status, "one slice that ends otherwise");
+    require(sliced.answer.value == kept_count && sliced.spent == lexeme_count, "one slice with other records");
+}
+
+static void try_part_offsets(void)
+{
+    TEXT("\n-- a\r\nSELECT 'b\n''\nc', \"d\ne\"/* f\n\n */ ,\n`g\n`;[h\ni]\r\n1.5 x'0A'\n\n$a(b) @c\n\n!=\xc3\xa9\n ");
+    for (size_t offset = 0; offset <= text_length + 1; offset++) {
+        try_allowances(offset);
+        for (uint32_t allowance = 0; allowance <= 8; allowance++)
+            for (size_t length = 0; length <= ROOM; length++)
+                (void)call_part(offset, allowance, length, &list, &sliced);
+    }
+}
+
 static void try_cut(void)
 {
     TEXT("a;b");
@@ -792,6 +1045,10 @@ static void try_long(void)
     static unsigned char bytes[TEXT_MOST];
     memset(bytes, ';', sizeof bytes);
     set_text(bytes, SQLLEX_LONGEST_TEXT);
+    PART(0, SQLLEX_LONGEST_TEXT, SQLLEX_LONGEST_TEXT * RECORD_WIDTH, SQLLEX_END, SQLLEX_LONGEST_TEXT, SQLLEX_LONGEST_TEXT, 0,
+         SQLLEX_LONGEST_TEXT, SQLLEX_LONGEST_TEXT);
+    PART(0, SQLLEX_LONGEST_TEXT - 1, SQLLEX_LONGEST_TEXT * RECORD_WIDTH, SQLLEX_PAUSED, SQLLEX_LONGEST_TEXT - 1, SQLLEX_LONGEST_TEXT - 1, 0,
+         SQLLEX_LONGEST_TEXT - 1, SQLLEX_LONGEST_TEXT - 1);
     LIST(0, SQLLEX_LONGEST_TEXT * RECORD_WIDTH, SQLLEX_END, SQLLEX_LONGEST_TEXT, SQLLEX_LONGEST_TEXT, 0, SQLLEX_LONGEST_TEXT);
     LIST(0, SQLLEX_LONGEST_TEXT * RECORD_WIDTH - 1, SQLLEX_LIST_FULL, SQLLEX_LONGEST_TEXT - 1, SQLLEX_LONGEST_TEXT - 1, 0,
          SQLLEX_LONGEST_TEXT - 1);
@@ -800,6 +1057,10 @@ static void try_long(void)
     require(list[0] == OLD, "a list of a text that is too long was written");
     LIST(7, 0, SQLLEX_TOO_LONG, 0, 0, 0, 7);
     LIST(SIZE_MAX, ROOM, SQLLEX_TOO_LONG, 0, 0, 0, SIZE_MAX);
+    PART(0, 9, ROOM, SQLLEX_TOO_LONG, 0, 0, 0, 0, 0);
+    require(list[0] == OLD, "a slice of a text that is too long was written");
+    PART(7, 0, 0, SQLLEX_TOO_LONG, 0, 0, 0, 7, 0);
+    PART(SIZE_MAX, UINT32_MAX, ROOM, SQLLEX_TOO_LONG, 0, 0, 0, SIZE_MAX, 0);
     memset(bytes, ' ', sizeof bytes);
     set_text(bytes, sizeof bytes);
     NEXT(0, SQLLEX_TOKEN, SQLLEX_TK_NONE, 0, TEXT_MOST, TEXT_MOST);
@@ -870,6 +1131,9 @@ static void try_null(void)
     TEXT("a");
     require(sqllex_list_from(text, text_length, 0, profile, NULL, 0, answer) == SQLLEX_LIST_FULL, "a record in no list");
     require(sqllex_list(text, text_length, profile, NULL, 0) == 0, "a record in no list");
+    sqllex_slice *slice = unset(slice_room, sizeof *slice);
+    require(sqllex_list_part(NULL, 0, 0, profile, 1, NULL, 0, slice) == SQLLEX_END && slice->spent == 0, "a slice of nothing");
+    require(sqllex_list_part(text, text_length, 0, profile, 1, NULL, 0, slice) == SQLLEX_LIST_FULL, "a record in no list");
     require(sqllex_word_kind(NULL, 0) == SQLLEX_TK_ID && !sqllex_is_quotable_keyword(NULL, 0), "a kind of no word");
 }
 
@@ -882,6 +1146,8 @@ static void try_statement(void)
     LIST(0, ROOM, SQLLEX_END, 4, 9, 0, 9);
     RECORDS(SQLLEX_TK_SELECT, 0, 6, 1, 1, SQLLEX_TK_NONE, 6, 1, 1, 7, SQLLEX_TK_INTEGER, 7, 1, 1, 8, SQLLEX_TK_SEMI, 8, 1, 1, 9);
     CUT(0, SQLLEX_CUT, 1, 0, 9, 9);
+    PART(0, 3, ROOM, SQLLEX_PAUSED, 2, 8, 0, 8, 3);
+    RECORDS(SQLLEX_TK_SELECT, 0, 6, 1, 1, SQLLEX_TK_INTEGER, 7, 1, 1, 8);
 }
 
 /*
@@ -905,6 +1171,8 @@ static void try_turso(void)
     TEXT("[\n];");
     LIST(0, ROOM, SQLLEX_END, 4, 4, 0, 4);
     RECORDS(SQLLEX_TK_LBRACKET, 0, 1, 1, 1, SQLLEX_TK_NONE, 1, 1, 1, 2, SQLLEX_TK_RBRACKET, 2, 1, 2, 1, SQLLEX_TK_SEMI, 3, 1, 2, 2);
+    PART(0, 3, ROOM, SQLLEX_PAUSED, 2, 3, 0, 3, 3);
+    RECORDS(SQLLEX_TK_LBRACKET, 0, 1, 1, 1, SQLLEX_TK_RBRACKET, 2, 1, 2, 1);
     TEXT("[;]");
     CUT(0, SQLLEX_CUT, 1, 0, 2, 2);
     TEXT("&&");
@@ -919,6 +1187,7 @@ static void try_turso(void)
     CUT(0, SQLLEX_OPEN, 1, 0, 2, 2);
     TEXT("1e_5");
     NUMBER(0, SQLLEX_TK_FLOAT, 0, 4, 4, 2, 1);
+    PART(0, 1, ROOM, SQLLEX_END, 1, 4, 0, 4, 1);
     LIST(0, ROOM, SQLLEX_END, 1, 4, 0, 4);
     RECORDS(SQLLEX_TK_FLOAT, 0, 4, 1, 1);
     CUT(0, SQLLEX_OPEN, 1, 0, 4, 4);
@@ -941,6 +1210,8 @@ static void try_sqlite(void)
     TEXT("[\n];");
     LIST(0, ROOM, SQLLEX_END, 2, 4, 0, 4);
     RECORDS(SQLLEX_TK_ID, 0, 3, 1, 1, SQLLEX_TK_SEMI, 3, 1, 2, 2);
+    PART(0, 1, ROOM, SQLLEX_PAUSED, 1, 3, 0, 3, 1);
+    RECORDS(SQLLEX_TK_ID, 0, 3, 1, 1);
     TEXT("[;]");
     CUT(0, SQLLEX_OPEN, 1, 0, 3, 3);
     TEXT("&&");
@@ -955,6 +1226,7 @@ static void try_sqlite(void)
     TEXT("1e_5");
     NEXT(0, SQLLEX_BAD_EXPONENT_PART, 0, 1, 1, 0);
     LIST(0, ROOM, SQLLEX_BAD_EXPONENT_PART, 0, 1, 1, 0);
+    PART(0, 1, ROOM, SQLLEX_BAD_EXPONENT_PART, 0, 1, 1, 0, 0);
     CUT(0, SQLLEX_BAD_EXPONENT_PART, 0, 1, 1, 0);
     TEXT("a [b");
     NEXT(2, SQLLEX_UNTERMINATED_LITERAL, 0, 2, 2, 2);
@@ -1001,6 +1273,11 @@ static void expect_unknown(uint32_t number, size_t offset, size_t length)
     require(sqllex_list_from(text, text_length, offset, number, lent, length, answer) == SQLLEX_UNKNOWN_PROFILE,
             "list_from under no profile");
     require(sqllex_list(text, text_length, number, lent, length) == 0, "records under no profile");
+    sqllex_slice *slice = lend(slice_room, sizeof *slice);
+    for (uint32_t allowance = 0; allowance < 3; allowance++)
+        require(sqllex_list_part(text, text_length, offset, number, allowance, lent, length, slice) == SQLLEX_UNKNOWN_PROFILE,
+                "list_part under no profile");
+    look_at_lent(slice, sizeof *slice, "a byte of a slice was written under no profile");
     look_at_lent(answer, sizeof *answer, "a byte of an answer was written under no profile");
     look_at_lent(lent, size, "a byte of a list was written under no profile");
 }
@@ -1419,7 +1696,7 @@ static void draw_bytes(uint8_t *bytes, size_t length)
     }
 }
 
-/* Lists of texts that are drawn, with many lines, from any offset on. */
+/* Lists and slices of texts that are drawn, with many lines, from any offset on. */
 static void try_drawn_lists(void)
 {
     static uint8_t bytes[3000];
@@ -1429,7 +1706,12 @@ static void try_drawn_lists(void)
         for (size_t i = draw(20); i < length; i += 1 + draw(20))
             bytes[i] = '\n';
         set_text(bytes, length);
-        try_filled_again(draw((uint32_t)length + 2), RECORD_WIDTH + draw(ROOM));
+        size_t offset = draw((uint32_t)length + 2);
+        try_filled_again(offset, RECORD_WIDTH + draw(ROOM));
+        uint32_t status = keep_list(offset, &said);
+        sqllex_answer end = said;
+        try_slices(offset, 1 + draw(draw(4) == 0 ? 600 : 9), RECORD_WIDTH + draw(ROOM), status, &end);
+        (void)call_part(offset, draw(30), draw(ROOM), &list, &sliced);
     }
 }
 
@@ -2173,6 +2455,10 @@ static void try_both(void)
     try_lines();
     try_lines_within();
     try_offsets();
+    try_part();
+    try_no_allowance();
+    try_blanks();
+    try_part_offsets();
     try_cut();
     try_long();
     try_long_lines();
@@ -2197,28 +2483,29 @@ static void try_edges(void)
 }
 
 static const char usage[] =
-    "calls front|back next|sums|list N|cut|stream|literal [turso|sqlite], or calls front|back word|write|replay|edges";
+    "calls front|back next|sums|list N|part N A|cut|stream|literal [turso|sqlite], or calls front|back word|write|replay|edges";
 
-/* The second argument, and which behind it: a list's length N, a profile. */
+/* The second argument, and which behind it: a list's length N, an allowance A, a profile. */
 struct mode {
     const char *name;
-    bool has_length, has_profile;
+    bool has_length, has_allowance, has_profile;
     void (*print)(size_t offset);
 };
 
 static const struct mode *mode_named(const char *name)
 {
     static const struct mode modes[] = {
-        {"next", false, true, print_next},
-        {"sums", false, true, print_sums},
-        {"list", true, true, print_one_list},
-        {"cut", false, true, print_cut},
-        {"stream", false, true, print_stream},
-        {"literal", false, true, print_literal},
-        {"write", false, false, print_write},
-        {"word", false, false, print_word},
-        {"replay", false, false, print_replay},
-        {"edges", false, false, NULL}, /* reads no records */
+        {"next", false, false, true, print_next},
+        {"sums", false, false, true, print_sums},
+        {"list", true, false, true, print_one_list},
+        {"part", true, true, true, print_slice},
+        {"cut", false, false, true, print_cut},
+        {"stream", false, false, true, print_stream},
+        {"literal", false, false, true, print_literal},
+        {"write", false, false, false, print_write},
+        {"word", false, false, false, print_word},
+        {"replay", false, false, false, print_replay},
+        {"edges", false, false, false, NULL}, /* reads no records */
     };
     for (size_t i = 0; i < sizeof modes / sizeof *modes; i++)
         if (strcmp(modes[i].name, name) == 0)
@@ -2233,6 +2520,14 @@ static size_t length_named(const char *digits)
     unsigned long length = strtoul(digits, &end, 10);
     require(end > digits && *end == '\0' && length <= LIST_MOST, usage);
     return length;
+}
+
+static uint32_t allowance_named(const char *digits)
+{
+    char *end;
+    unsigned long number = strtoul(digits, &end, 10);
+    require(end > digits && *end == '\0' && number <= UINT32_MAX, usage);
+    return (uint32_t)number;
 }
 
 static uint32_t profile_named(const char *name)
@@ -2253,12 +2548,17 @@ int main(int argc, char **argv)
         require(at < argc, usage);
         list_length = length_named(argv[at++]);
     }
+    if (mode->has_allowance) {
+        require(at < argc, usage);
+        slice_allowance = allowance_named(argv[at++]);
+    }
     if (mode->has_profile && at < argc)
         profile = profile_named(argv[at++]);
     require(at == argc, usage);
     text_room = make_room(TEXT_MOST);
     list_room = make_room(LIST_MOST * sizeof(uint32_t) + BESIDE);
     answer_room = make_room(sizeof(sqllex_answer));
+    slice_room = make_room(sizeof(sqllex_slice));
     stream_room = make_room(sizeof(sqllex_stream));
     row_room = make_room(ROW_LENGTH);
     given_room = make_room(sizeof(sqllex_given));

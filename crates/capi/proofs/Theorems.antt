@@ -1,18 +1,22 @@
--- For readers. `next-unique`, `list-unique`, `count-unique`, `cut-unique`: two results that meet a call's contract, and two lists, are equal.
--- The contracts of `sqllex_stream_begin`, `sqllex_stream_offer` and `sqllex_stream_finish` are those of `packets`, and so are their theorems:
--- `begin-unique`, `offer-unique`, `finish-unique` (Theorems.antt there). Assumes nothing.
+-- For readers. `next-unique`, `list-unique`, `part-unique`, `count-unique`, `cut-unique`: two results that meet a call's contract, and two
+-- lists, are equal. The contracts of `sqllex_stream_begin`, `sqllex_stream_offer` and `sqllex_stream_finish` are those of `packets`, and so
+-- are their theorems: `begin-unique`, `offer-unique`, `finish-unique` (Theorems.antt there). Assumes nothing.
 use Prim.Native.Nat.{ℕ}
 use mathlib.Core.Path.{_≡_, sym, _∙_, ap}
 use mathlib.Core.List.{List}
 use Rattle.grammar.specs.Longest.{source}
 use Rattle.lexer.proofs.Theorems.{unique}
+use Rattle.lists.specs.declared.part.Part.{Part}
 use Rattle.lists.specs.Lists.{recordsIn}
+use Rattle.lists.specs.Parts.{spentIn}
 use Rattle.lists.proofs.Theorems as lists
+use Rattle.lists.proofs.PartTheorems as parts
 use Rattle.codes.specs.declared.answers.Numbers.{Numbers}
-use Rattle.codes.specs.Told.{ofNext, ofList, ofCut, written}
+use Rattle.codes.specs.Told.{ofNext, ofList, ofPart, ofCut, written}
 use Rattle.codes.specs.Profiles.{profileOf}
 use Rattle.codes.proofs.CodeLaws.{by-profile}
-use Rattle.capi.specs.Calls.{Gave, NextCall, ListCall, CountCall, CutCall}
+use Rattle.packets.specs.Numbers.{seven}
+use Rattle.capi.specs.Calls.{Gave, GavePart, NextCall, ListCall, PartCall, CountCall, CutCall}
 
 -- equal answers give the same numbers
 same : (x y : Numbers) (m n : ℕ) (k l : List ℕ) → x ≡ y → Gave x m k → Gave y n l → (m ≡ n) × (k ≡ l)
@@ -31,6 +35,19 @@ list-unique s at profile old lent m n k l new new′ =
     by-profile (profileOf profile) _ _ _ _ _
     (λ p x y. let (e, w) = lists.list-unique (source p s) at old (x .answer) (y .answer) new new′ (x .owed) (y .owed) in
     let (a, b) = same _ _ m n k l (ap ofList e) (x .gave) (y .gave) in
+    (a, b, w))
+    (λ x y. (x .0 ∙ sym (y .0), x .1 ∙ sym (y .1), x .2 ∙ sym (y .2)))
+
+same-part : (r q : Part) (m n : ℕ) (k l : List ℕ) → r ≡ q → GavePart r m k → GavePart q n l → (m ≡ n) × (k ≡ l)
+same-part r q m n k l e (a, b) (c, d) =
+    (a ∙ ap (λ (p : Part). ofPart p .status) e ∙ sym c, b ∙ ap (λ (p : Part). seven (ofPart p) (spentIn p)) e ∙ sym d)
+
+pub part-unique : (s : List ℕ) (at profile allowance : ℕ) (old lent : List ℕ) (m n : ℕ) (k l new new′ : List ℕ)
+    → PartCall s at profile allowance old lent m k new → PartCall s at profile allowance old lent n l new′ → (m ≡ n) × (k ≡ l) × (new ≡ new′)
+part-unique s at profile allowance old lent m n k l new new′ =
+    by-profile (profileOf profile) _ _ _ _ _
+    (λ p x y. let (e, w) = parts.part-unique (source p s) at allowance old (x .answer) (y .answer) new new′ (x .owed) (y .owed) in
+    let (a, b) = same-part (x .answer) (y .answer) m n k l e (x .gave) (y .gave) in
     (a, b, w))
     (λ x y. (x .0 ∙ sym (y .0), x .1 ∙ sym (y .1), x .2 ∙ sym (y .2)))
 

@@ -7,12 +7,15 @@ use Rattle.grammar.specs.Longest.{Source, source}
 use Rattle.lexer.specs.declared.lexed.Lexed.{Lexed}
 use Rattle.lexer.specs.Values.{LexesUnder}
 use Rattle.lists.specs.declared.list.Listed.{Listed}
+use Rattle.lists.specs.declared.part.Part.{Part}
 use Rattle.lists.specs.declared.cut.Statement.{Statement}
 use Rattle.lists.specs.Lists.{recordsIn, Lists}
+use Rattle.lists.specs.Parts.{spentIn, Parts}
 use Rattle.lists.specs.Cuts.{Cuts}
 use Rattle.codes.specs.declared.answers.Numbers.{Numbers}
-use Rattle.codes.specs.Told.{ofNext, ofList, ofCut, written}
+use Rattle.codes.specs.Told.{ofNext, ofList, ofPart, ofCut, written}
 use Rattle.codes.specs.Profiles.{profileOf, unknownProfile, Under}
+use Rattle.packets.specs.Numbers.{seven}
 
 -- the status and the six numbers written
 abbrev pub Gave : Numbers → ℕ → List ℕ → Type 0
@@ -39,6 +42,20 @@ abbrev pub ListCall : List ℕ → ℕ → ℕ → List ℕ → List ℕ → ℕ
 ListCall s at profile old lent status six new =
     Under (profileOf profile) (λ p. ListNumbers (source p s) at old status six new)
     ((status ≡ unknownProfile) × (six ≡ lent) × (new ≡ old))
+
+-- the list without TK_NONE, as far as an allowance lasts; the last of the seven numbers is how many lexemes were spent
+abbrev pub GavePart : Part → ℕ → List ℕ → Type 0
+GavePart r status numbers = (status ≡ ofPart r .status) × (numbers ≡ seven (ofPart r) (spentIn r))
+
+pub record PartNumbers (s : Source) (at allowance : ℕ) (old : List ℕ) (status : ℕ) (numbers new : List ℕ) : Type 0 where
+  pub answer : Part
+  pub owed : Parts s at allowance old answer new
+  pub gave : GavePart answer status numbers
+
+abbrev pub PartCall : List ℕ → ℕ → ℕ → ℕ → List ℕ → List ℕ → ℕ → List ℕ → List ℕ → Type 0
+PartCall s at profile allowance old lent status numbers new =
+    Under (profileOf profile) (λ p. PartNumbers (source p s) at allowance old status numbers new)
+    ((status ≡ unknownProfile) × (numbers ≡ lent) × (new ≡ old))
 
 -- List from the text's beginning on: how many records it wrote, and the list
 pub record ListCount (s : Source) (old : List ℕ) (records : ℕ) (new : List ℕ) : Type 0 where

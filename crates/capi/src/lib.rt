@@ -6,9 +6,12 @@ use codes::told::give;
 use codes::told::of_cut;
 use codes::told::of_list;
 use codes::told::of_next;
+use codes::told::of_part;
+use codes::told::spent_in;
 use lexer::cursor::Cursor;
 use lexer::next::next;
 use lists::cut::cut;
+use lists::part::list_part;
 use packets::calls::begin_numbers;
 use packets::calls::finish_numbers;
 use packets::calls::offer_numbers;
@@ -21,7 +24,7 @@ ghost use Rattle.strings.specs.Calls.{ReadsString, ReadsName, WritesString, Wri
 ghost use Rattle.blobs.specs.Calls.{ReadsBlob, WritesBlob};
 ghost use Rattle.packets.specs.Calls.{BeginCall, OfferCall, FinishCall};
 ghost use Rattle.values.specs.Calls.{ReadIntegerCall, ReadBytesCall, WriteCall};
-ghost use Rattle.capi.specs.Calls.{NextCall, ListCall, CountCall, CutCall};
+ghost use Rattle.capi.specs.Calls.{NextCall, ListCall, PartCall, CountCall, CutCall};
 
 #[no_mangle]
 pub extern "C" fn sqllex_next(
@@ -55,6 +58,27 @@ pub extern "C" fn sqllex_list_from(
         of_list(lists::list::list(text, Cursor { at: offset }, profile, list)),
         answer,
     )
+}
+
+// A slice: as far as the allowance lasts, and without TK_NONE. The last of its seven numbers is how many lexemes were spent.
+#[no_mangle]
+pub extern "C" fn sqllex_list_part(
+    text: &[u8],
+    offset: usize,
+    profile: u32,
+    allowance: u32,
+    list: &mut [u32],
+    slice: &mut [usize; 7],
+) -> u32
+    ensures { λ r. ⌜ PartCall (now (text .entry)) offset profile allowance (now (list .entry)) (now (slice .entry)) r (now (slice .exit)) (now (list .exit)) ⌝ }
+{
+    let Chosen::Known(profile) = profile_of(profile) else {
+        return UNKNOWN_PROFILE;
+    };
+    let part = list_part(text, Cursor { at: offset }, profile, allowance, list);
+    let numbers = of_part(part);
+    let spent = spent_in(part) as usize;
+    packets::answers::give(numbers, spent, slice)
 }
 
 // From the text's beginning, for a caller that wants no more than the number of records.

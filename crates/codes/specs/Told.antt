@@ -1,12 +1,15 @@
--- The answers of Next, List and the cut as C gets them. Assumes nothing.
+-- The answers of Next, List, its slices and the cut as C gets them. Assumes nothing.
 use Prim.Native.Nat.{ℕ}
 use mathlib.Core.Bool.{cond}
 use mathlib.Core.List.{List, [], _∷_}
 use Rattle.lexer.specs.declared.lexed.Lexed.{Lexed}
 use Rattle.lexer.specs.Values.{valuesOf}
 use Rattle.lists.specs.declared.list.Listed.{Listed}
+use Rattle.lists.specs.declared.part.Part.{Part}
 use Rattle.lists.specs.declared.cut.Statement.{Statement}
 use Rattle.lists.specs.Lists.{answerOf, recordsIn}
+use Rattle.lists.specs.Parts.{PartAnswer, given, paused}
+use Rattle.lists.specs.Parts as Parts
 use Rattle.lists.specs.Cuts.{CutAnswer, cut, opened, ended, refused}
 use Rattle.lists.specs.Cuts as Cuts
 use Rattle.codes.specs.declared.answers.Numbers.{Numbers}
@@ -19,6 +22,14 @@ ofNext r = ofAnswer (kindGiven (valuesOf r)) (valuesOf r)
 -- of List the number of records
 abbrev pub ofList : Listed → Numbers
 ofList r = ofAnswer (recordsIn r) (answerOf r)
+
+-- of a slice of List's the same; Paused has status 105
+abbrev pub ofPartAnswer : ℕ → PartAnswer → Numbers
+ofPartAnswer value (given a) = ofAnswer value a
+ofPartAnswer value (paused start n offset) = five 105 value start n offset
+
+abbrev pub ofPart : Part → Numbers
+ofPart r = ofPartAnswer (Parts.recordsIn r) (Parts.answerOf r)
 
 -- of the cut 1 where a token that is not TK_NONE came before the semicolon or the end, else 0, and 0 for a refusal; a cut has status 101,
 -- Open 102

@@ -27,6 +27,9 @@ pub const OPEN: u32 = 102;
 
 pub const MORE: u32 = 103;
 
+// 104 is that of a literal that was read or written, in `values`.
+pub const PAUSED: u32 = 105;
+
 pub struct Numbers {
     pub status: u32,
     pub value: usize,

@@ -1,9 +1,10 @@
-// The answers of Next, List and the cut in numbers.
+// The answers of Next, List, its slices and the cut in numbers.
 use crate::answers::CUT;
 use crate::answers::END;
 use crate::answers::LIST_FULL;
 use crate::answers::Numbers;
 use crate::answers::OPEN;
+use crate::answers::PAUSED;
 use crate::answers::TOO_LONG;
 use crate::answers::five;
 use crate::answers::number_of;
@@ -11,8 +12,10 @@ use crate::answers::of_token;
 use lexer::lexed::Lexed;
 use lists::cut::Statement;
 use lists::list::Listed;
+use lists::part::Part;
 ghost use mathlib.Core.Path.{_≡_};
-ghost use Rattle.codes.specs.Told.{ofNext, ofList, ofCut, written};
+ghost use Rattle.lists.specs.Parts.{spentIn};
+ghost use Rattle.codes.specs.Told.{ofNext, ofList, ofPart, ofCut, written};
 
 // Writes all but the status, which it returns.
 pub fn give(given: Numbers, answer: &mut [usize; 6]) -> u32
@@ -65,6 +68,69 @@ pub fn of_list(answer: Listed) -> Numbers
         } => five(number_of(why), records, start, length, next.at),
         Listed::TooLong { next } => five(TOO_LONG, 0, 0, 0, next.at),
         Listed::ListFull { records, next } => five(LIST_FULL, records, next.at, 0, next.at),
+    }
+}
+
+pub fn of_part(answer: Part) -> Numbers
+    ensures { λ r. ⌜ r ≡ ofPart answer ⌝ }
+{
+    match answer {
+        Part::End {
+            records,
+            spent: _,
+            next,
+        } => five(END, records, next.at, 0, next.at),
+        Part::Refused {
+            why,
+            start,
+            length,
+            records,
+            spent: _,
+            next,
+        } => five(number_of(why), records, start, length, next.at),
+        Part::TooLong { next } => five(TOO_LONG, 0, 0, 0, next.at),
+        Part::Paused {
+            records,
+            spent: _,
+            next,
+        } => five(PAUSED, records, next.at, 0, next.at),
+        Part::ListFull {
+            records,
+            spent: _,
+            next,
+        } => five(LIST_FULL, records, next.at, 0, next.at),
+    }
+}
+
+// How many lexemes a slice passed, which is none of its numbers.
+pub fn spent_in(answer: Part) -> u32
+    ensures { λ r. ⌜ r ≡ spentIn answer ⌝ }
+{
+    match answer {
+        Part::End {
+            records: _,
+            spent,
+            next: _,
+        } => spent,
+        Part::Refused {
+            why: _,
+            start: _,
+            length: _,
+            records: _,
+            spent,
+            next: _,
+        } => spent,
+        Part::TooLong { next: _ } => 0,
+        Part::Paused {
+            records: _,
+            spent,
+            next: _,
+        } => spent,
+        Part::ListFull {
+            records: _,
+            spent,
+            next: _,
+        } => spent,
     }
 }
 

@@ -14,6 +14,6 @@ ofTold (tells a) = ofAnswer (kindGiven a) a
 abbrev pub ofStream : A.Answer → Numbers
 ofStream a = ofTold (valuesOf a)
 
--- the seven that are written: the last is how many bytes were taken
+-- the seven that are written: the last is how many bytes were taken (of a slice of List's, in `capi`, how many lexemes were spent)
 abbrev pub seven : Numbers → ℕ → List ℕ
 seven r taken = r .value ∷ r .start ∷ r .length ∷ r .next ∷ r .digits ∷ r .underscores ∷ taken ∷ []

@@ -38,8 +38,8 @@ pub(crate) fn of_stream(answer: Answer) -> Numbers
     }
 }
 
-// Writes all but the status, and how many bytes were taken.
-pub(crate) fn give(numbers: Numbers, taken: usize, given: &mut [usize; 7]) -> u32
+// Writes all but the status, and how many bytes were taken, or lexemes spent.
+pub fn give(numbers: Numbers, taken: usize, given: &mut [usize; 7]) -> u32
     ensures { λ r. ⌜ (r ≡ numbers .status) × (now (given .exit) ≡ seven numbers taken) ⌝ }
 {
     *given = [

@@ -1,4 +1,4 @@
 // A stream as C has it: its state is six numbers that the caller keeps, and an answer is a status and seven numbers.
-mod answers;
+pub mod answers;
 pub mod calls;
 mod states;
