@@ -21,8 +21,7 @@ use Rattle.lists.specs.Refusals.{listRefusal}
 use Rattle.lists.specs.Lists.{HasRoom, listFull, listAnswer, Listing}
 use Rattle.lists.specs.Parts.{notBlank, Allowed, PartAnswer, partAnswer, Parting}
 use Rattle.lists.specs.Gapless.{InOneClass, Follow, Each, RunEnds, Ends, Gapless, SliceEnds, GaplessSlice}
-use Rattle.lists.proofs.WalkLaws.{legal, is-legal, end-no-token, refusal-no-token}
-use Rattle.lists.proofs.PartLaws.{within}
+use Rattle.lists.proofs.WalkLaws.{legal, is-legal, end-no-token, refusal-no-token, passes-most}
 
 module _ (goes : Goes) (s : Source) where
   in-one-class : (at : ℕ) (t : Legal) → Next s at (tokenOf t) → InOneClass false s at (t .length) (tokenOf t)
@@ -131,7 +130,7 @@ pub gapless-slice : (s : Source) (from allowance : ℕ) (old : List ℕ) (a : Pa
 gapless-slice s from allowance old a records spent new x =
     let w = x .walk in
     let goes = Allowed notBlank (length old) allowance in
-    let most = within notBlank (length old) allowance s [] from (w .passed) (w .to) (omega arith) (w .passes) in
+    let most = passes-most goes allowance (λ b t o. o .0) s [] from (w .passed) (w .to) (omega arith) (w .passes) in
     let ends = slice-ends s (length old) allowance (w .passed) (w .to) (w .there) most (w .gives) (w .stops) in
     record {
       lexemes = w .passed;

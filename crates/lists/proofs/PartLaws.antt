@@ -3,10 +3,10 @@ use Prim.Native.Nat.{ℕ, zero, suc, _+_, _-_, _/_, _≤_, _<_}
 use native.Mathlib.Omega.{arith}
 use mathlib.Core.Path.{_≡_, refl, sym, _∙_, ap, subst, fun-ext}
 use mathlib.Core.Bool.{Bool, true, false, not}
-use mathlib.Core.List.{List, [], _∷_, _++_, append-assoc, append-nil}
+use mathlib.Core.List.{List}
 use mathlib.Core.Logic.{inl, inr}
 use lib.Dec.{eqb, leb}
-use lib.ListN.{length, length-append}
+use lib.ListN.{length}
 use borrow.Author.Tests.{eq-eqb, ne-eqb, le-leb}
 use Rattle.keywords.specs.Kinds.{kind}
 use Rattle.records.specs.Records.{width}
@@ -19,22 +19,10 @@ use Rattle.lists.specs.declared.part.Part.the-variants.{End, Refused, To
 use Rattle.lists.specs.declared.pass.There.{There}
 use Rattle.lists.specs.declared.pass.There.the-variants.{Lexeme, End as AtEnd, Refused as AtRefusal}
 use Rattle.lists.specs.declared.pass.Stop.{Stop}
-use Rattle.lists.specs.Walk.{Legal, Passes}
 use Rattle.lists.specs.Lists.{listFull, longestText}
 use Rattle.lists.specs.Cuts.{notNone}
-use Rattle.lists.specs.Parts.{Keeps, notBlank, Allowed, PartAnswer, given, pausedAt, partAnswer, Parting, Parts}
+use Rattle.lists.specs.Parts.{Keeps, notBlank, PartAnswer, given, pausedAt, partAnswer, Parting, Parts}
 use Rattle.lists.specs.Passing.{fromKind, Meets, Passing}
-
--- no more lexemes are passed than allowed
-pub within : (keeps : Keeps) (room n : ℕ) (s : Source) (before : List Legal) (from : ℕ) (l : List Legal) (to : ℕ) → length before ≤ n
-    → Passes (Allowed keeps room n) s before from l to → length (before ++ l) ≤ n
-unfolding Passes
-within keeps room n s before from [] to h p = subst (λ (x : List Legal). length x ≤ n) (sym (append-nil before)) h
-within keeps room n s before from (t ∷ l) to h (e, g, o, p) =
-    let one = length-append before (t ∷ []) in
-    let less = o .0 in
-    subst (λ (x : List Legal). length x ≤ n) (append-assoc before (t ∷ []) l)
-    (within keeps room n s (before ++ (t ∷ [])) (from + t .length) l to (omega arith) p)
 
 -- the kinds from the one behind TK_NONE on are all but TK_NONE
 not-none : (k : ℕ) → leb (kind "TK_NONE" + 1) k ≡ notNone k

@@ -1,7 +1,8 @@
 -- For readers. `part-unique`: the contract of `list_part` leaves one answer and one list. `slice-of-longest-in-one-class`: a slice's lexemes
 -- follow one another, each the longest and in one class, up to Paused too. `slices-are-one-call`: slices, each from where the one before was
--- paused, give what one call with all their allowances gives, where no list runs full. `list-without-blanks`: a call that comes to the end or
--- to a refusal gives List's records, those of TK_NONE left out. `paused-exactly`, `full-not-spent`: what it is that a slice stops at.
+-- paused, give what one call with all their allowances gives, where no list runs full; `more-changes-nothing`: where a call is not paused, a
+-- greater allowance gives the same. `list-without-blanks`: a call that comes to the end or to a refusal gives List's records, those of
+-- TK_NONE left out. `paused-exactly`, `full-not-spent`: what it is that a slice stops at.
 -- `part-too-long`: the refusal that comes first. Assumes nothing.
 use Prim.Native.Nat.{ℕ, _+_, _*_, _≤_, _<_}
 use native.Mathlib.Omega.{arith}
@@ -36,7 +37,7 @@ use Rattle.lists.specs.Slices.{Slice, Sliced, total, readFirst, readAll,
 use Rattle.lists.specs.Gapless.{InOneClass, SliceEnds, GaplessSlice}
 use Rattle.lists.proofs.WalkLaws.{legal, is-legal, walk-one}
 use Rattle.lists.proofs.GaplessLaws.{gapless-slice, never-full}
-use Rattle.lists.proofs.SliceLaws.{AtMost, written, front-first, paused-there, Run, run-of, run-slices}
+use Rattle.lists.proofs.SliceLaws.{AtMost, written, front-first, paused-there, Run, run-of, run-more, run-slices}
 use Rattle.lists.proofs.SliceLaws.{every-list, every-part, same-answer, without}
 
 -- An answer can be read back from its values.
@@ -148,6 +149,18 @@ slices-are-one-call s from l last x ok old a records spent new y free =
     let n = total (λ c. c .allowance) l last in
     let one : Slice = record { allowance = n; lent = old; answer = a; records = records; spent = spent; left = new } in
     run-one s from n a (last .answer) _ _ _ _ _ _ (run-of s from one y free) (run-slices s from l last x ok)
+
+-- A call that is not paused, and one with a greater allowance: where no list runs full they give the same. So of an allowance that is split the
+-- first slice is paused, and the next goes on there, or the first is all.
+pub more-changes-nothing : (s : Source) (from m n : ℕ) (old : List ℕ) (a : PartAnswer) (records spent : ℕ) (new : List ℕ)
+    → Parting s from m old a records spent new → (Full a → ⊥) → ((at : ℕ) → a ≡ pausedAt at → ⊥)
+    → (old′ : List ℕ) (b : PartAnswer) (records′ spent′ : ℕ) (new′ : List ℕ)
+    → Parting s from (m + n) old′ b records′ spent′ new′ → (Full b → ⊥)
+    → (a ≡ b) × (records ≡ records′) × (spent ≡ spent′) × (readFirst records new ≡ readFirst records′ new′)
+more-changes-nothing s from m n old a records spent new x free on old′ b records′ spent′ new′ y free′ =
+    let one : Slice = record { allowance = m; lent = old; answer = a; records = records; spent = spent; left = new } in
+    let two : Slice = record { allowance = m + n; lent = old′; answer = b; records = records′; spent = spent′; left = new′ } in
+    run-one s from (m + n) a b _ _ _ _ _ _ (run-more s from m n a _ _ _ (run-of s from one x free) on) (run-of s from two y free′)
 
 -- It is paused exactly when the allowance is spent and another legal lexeme begins.
 pub paused-exactly : (s : Source) (from allowance : ℕ) (old : List ℕ) (a : PartAnswer) (records spent : ℕ) (new : List ℕ)

@@ -10,7 +10,7 @@ use lib.Seq.{take-at}
 use borrow.Author.Tests.{eq-eqb, ne-eqb, eqb-true, eqb-false}
 use Rattle.keywords.proofs.Logic.{split}
 use Rattle.grammar.specs.Answers.{Answer, token, end, refusal}
-use Rattle.grammar.specs.Longest.{Source}
+use Rattle.grammar.specs.Longest.{Source, Next}
 use Rattle.records.specs.declared.Record.{Record}
 use Rattle.records.specs.Records.{readBack, atFront}
 use Rattle.records.proofs.Theorems.{front-read}
@@ -18,7 +18,7 @@ use Rattle.lists.specs.Walk.{Legal, tokenOf, Goes, Always, Passes, Walk}
 use Rattle.lists.specs.Lists.{recordOf, recordsOf, HasRoom, listFull, listAnswer, Listing}
 use Rattle.lists.specs.Parts.{notBlank, kept, Allowed, PartAnswer, given, pausedAt, partAnswer, Parting}
 use Rattle.lists.specs.Slices.{Slice, From, Sliced, total, readFirst, readAll, Full, withoutNone}
-use Rattle.lists.proofs.WalkLaws.{end-no-token, refusal-no-token, passes-also}
+use Rattle.lists.proofs.WalkLaws.{legal, is-legal, end-no-token, refusal-no-token, passes-also, passes-most}
 use Rattle.lists.proofs.KeptLaws.{records-append, records-many, kept-append}
 
 -- it passes so many lexemes
@@ -124,6 +124,45 @@ run-of s from c x ok =
       costs = x .costs;
       reads = front-first s (kept notBlank (v .passed)) (c .records) (c .lent) (c .left) (x .counted) (x .written);
     }
+
+-- one that is not paused is such a walk with a greater allowance too
+pub run-more : (s : Source) (from m n : ℕ) (a : PartAnswer) (i j : ℕ) (rs : List Record) → Run s from m a i j rs
+    → ((at : ℕ) → a ≡ pausedAt at → ⊥) → Run s from (m + n) a i j rs
+run-more s from m n a i j rs x on =
+    record {
+      walk =
+          record {
+            passed = v .passed;
+            to = v .to;
+            passes = passes-also (AtMost m) (AtMost (m + n)) (λ b t o. omega (arith, o)) s [] from (v .passed) (v .to) (v .passes);
+            there = v .there;
+            gives = v .gives;
+            stops = λ t e o. no-token t e;
+          };
+      answers = x .answers ∙ either (eqb (length (v .passed)) m) (eqb (length (v .passed)) (m + n)) (v .there) (v .gives) no-token;
+      counted = x .counted;
+      costs = x .costs;
+      reads = x .reads;
+    }
+  where
+    v : Walk (AtMost m) s from
+    v = x .walk
+
+    below : (length (v .passed) ≡ m → ⊥) → length (v .passed) < m
+    below other = omega (arith, other, passes-most (AtMost m) m (λ b t o. o) s [] from (v .passed) (v .to) (omega arith) (v .passes))
+
+    -- it would be paused there, or pass it
+    no-token : (t : Legal) → v .there ≡ tokenOf t → ⊥
+    no-token t e =
+        split (eqb (length (v .passed)) m)
+        (λ f. on (v .to) (x .answers ∙ ap (λ (b : Bool). partAnswer (v .to) b (v .there)) f ∙ ap (partAnswer (v .to) true) e))
+        (λ f. v .stops t e (below (eqb-false (length (v .passed)) m f)))
+
+    either : (b c : Bool) (there : Answer) → Next s (v .to) there → ((t : Legal) → there ≡ tokenOf t → ⊥)
+        → partAnswer (v .to) b there ≡ partAnswer (v .to) c there
+    either b c (token k start l next d u) g none = absurd (none (legal k start l d u) (is-legal s (v .to) k start l next d u g))
+    either b c (end offset) g none = refl
+    either b c (refusal k start l offset) g none = refl
 
 eqb-add : (a b m n : ℕ) → a ≡ m → eqb (a + b) (m + n) ≡ eqb b n
 eqb-add a b m n e =
