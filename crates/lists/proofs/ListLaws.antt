@@ -26,10 +26,10 @@ use Rattle.lists.proofs.WalkLaws.{passes-also, passes-count}
 use Rattle.lists.proofs.KeptLaws.{kept-every}
 
 -- the answer by what the walk met
-full-there : (next at : ℕ) (a : Answer) → Meets Lexeme next at a → listFull next ≡ listAnswer at a
-full-there next at (token k start n behind d u) e = ap listFull e
-full-there next at (end offset) e = absurd e
-full-there next at (refusal k start n offset) e = absurd e
+full-met : (next at : ℕ) (a : Answer) → Meets Lexeme next at a → listFull next ≡ listAnswer at a
+full-met next at (token k start n behind d u) e = ap listFull e
+full-met next at (end offset) e = absurd e
+full-met next at (refusal k start n offset) e = absurd e
 
 module _ (s : Source) (from least allowance : ℕ) (old : List ℕ) (stop : Stop) (new : List ℕ)
     (w : Passing s from (fromKind least) allowance old stop new)
@@ -79,7 +79,7 @@ module _ (s : Source) (from least allowance : ℕ) (old : List ℕ) (stop : Stop
   pub lists-full : stop .there ≡ Lexeme → Lists s from old (ListFull (stop .filled / width) (stop .next)) new
   unfolding Lists
   lists-full e =
-      inr (short, listing (listFull (stop .next .at)) (full-there (stop .next .at) (w .walk .to) (w .walk .there) (met Lexeme e)))
+      inr (short, listing (listFull (stop .next .at)) (full-met (stop .next .at) (w .walk .to) (w .walk .there) (met Lexeme e)))
 
   pub lists-end : stop .there ≡ AtEnd → Lists s from old (End (stop .filled / width) (stop .next)) new
   unfolding Lists

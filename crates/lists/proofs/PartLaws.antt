@@ -36,15 +36,15 @@ not-blank : fromKind (kind "TK_NONE" + 1) ≡ notBlank
 not-blank = fun-ext (λ t. not-none (t .kind))
 
 -- the answer by what the walk met
-paused-there : (next at : ℕ) (a : Answer) → Meets Lexeme next at a → pausedAt next ≡ partAnswer at true a
-paused-there next at (token k start n behind d u) e = ap pausedAt e
-paused-there next at (end offset) e = absurd e
-paused-there next at (refusal k start n offset) e = absurd e
+paused-met : (next at : ℕ) (a : Answer) → Meets Lexeme next at a → pausedAt next ≡ partAnswer at true a
+paused-met next at (token k start n behind d u) e = ap pausedAt e
+paused-met next at (end offset) e = absurd e
+paused-met next at (refusal k start n offset) e = absurd e
 
-full-there : (next at : ℕ) (a : Answer) → Meets Lexeme next at a → given (listFull next) ≡ partAnswer at false a
-full-there next at (token k start n behind d u) e = ap (λ (x : ℕ). given (listFull x)) e
-full-there next at (end offset) e = absurd e
-full-there next at (refusal k start n offset) e = absurd e
+full-met : (next at : ℕ) (a : Answer) → Meets Lexeme next at a → given (listFull next) ≡ partAnswer at false a
+full-met next at (token k start n behind d u) e = ap (λ (x : ℕ). given (listFull x)) e
+full-met next at (end offset) e = absurd e
+full-met next at (refusal k start n offset) e = absurd e
 
 module _ (s : Source) (from least allowance : ℕ) (old : List ℕ) (stop : Stop) (new : List ℕ)
     (w : Passing s from (fromKind least) allowance old stop new)
@@ -76,7 +76,7 @@ module _ (s : Source) (from least allowance : ℕ) (old : List ℕ) (stop : Stop
   parts-paused e none =
       let v = tokens in
       let spent = eq-eqb (length (v .walk .passed)) allowance (omega (arith, v .left)) in
-      inr (short, parting (pausedAt (stop .next .at)) true spent (paused-there (stop .next .at) (v .walk .to) (v .walk .there) (met Lexeme e)))
+      inr (short, parting (pausedAt (stop .next .at)) true spent (paused-met (stop .next .at) (v .walk .to) (v .walk .there) (met Lexeme e)))
 
   pub parts-full : stop .there ≡ Lexeme → (stop .left ≡ 0 → ⊥)
       → Parts s from allowance old (ListFull (stop .filled / width) (allowance - stop .left) (stop .next)) new
@@ -84,7 +84,7 @@ module _ (s : Source) (from least allowance : ℕ) (old : List ℕ) (stop : Stop
   parts-full e some =
       let v = tokens in
       let spent = ne-eqb (length (v .walk .passed)) allowance (λ f. some (omega (arith, v .left))) in
-      inr (short, parting (given (listFull (stop .next .at))) false spent (full-there (stop .next .at) (v .walk .to) (v .walk .there) (met Lexeme e)))
+      inr (short, parting (given (listFull (stop .next .at))) false spent (full-met (stop .next .at) (v .walk .to) (v .walk .there) (met Lexeme e)))
 
   pub parts-end : stop .there ≡ AtEnd → Parts s from allowance old (End (stop .filled / width) (allowance - stop .left) (stop .next)) new
   unfolding Parts

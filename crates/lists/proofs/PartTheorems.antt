@@ -19,11 +19,9 @@ use Rattle.grammar.specs.Longest.{Source, Next}
 use Rattle.grammar.proofs.Unique.{gives-unique}
 use Rattle.lexer.specs.declared.cursor.Cursor.{Cursor}
 use Rattle.lexer.specs.declared.lexed.Refusal.{Refusal}
-use Rattle.lexer.specs.declared.lexed.Refusal.the-variants.{UnrecognizedToken, UnterminatedLiteral, BadNumber, BadFractionalPart}
-use Rattle.lexer.specs.declared.lexed.Refusal.the-variants.{BadExponentPart, MalformedHexInteger, ExpectedEqualsSign, OffsetPastEnd}
 use Rattle.lexer.specs.Eaten.{cursor}
 use Rattle.lexer.specs.Values.{numberOf}
-use Rattle.lexer.proofs.Theorems.{refusalOf}
+use Rattle.lexer.proofs.Theorems.{refusalOf, refusal-back}
 use Rattle.records.specs.declared.Record.{Record}
 use Rattle.records.specs.Records.{width, atFront}
 use Rattle.lists.specs.declared.part.Part.{Part}
@@ -37,6 +35,7 @@ use Rattle.lists.specs.Slices.{Slice, Sliced, total, readFirst, readAll,
 use Rattle.lists.specs.Gapless.{InOneClass, SliceEnds, GaplessSlice}
 use Rattle.lists.proofs.WalkLaws.{legal, is-legal, walk-one}
 use Rattle.lists.proofs.GaplessLaws.{gapless-slice, never-full}
+use Rattle.lists.proofs.Theorems.{not-lists}
 use Rattle.lists.proofs.SliceLaws.{AtMost, written, front-first, paused-there, Run, run-of, run-more, run-slices}
 use Rattle.lists.proofs.SliceLaws.{every-list, every-part, same-answer, without}
 
@@ -54,14 +53,9 @@ partOf (given (refusal k start n offset)) records spent = refusedOf k start n of
 
 refused-back : (why : Refusal) (start n records spent : ℕ) (next : Cursor)
     → refusedOf (numberOf why) start n (next .at) records spent ≡ Refused why start n records spent next
-refused-back UnrecognizedToken start n records spent next = refl
-refused-back UnterminatedLiteral start n records spent next = refl
-refused-back BadNumber start n records spent next = refl
-refused-back BadFractionalPart start n records spent next = refl
-refused-back BadExponentPart start n records spent next = refl
-refused-back MalformedHexInteger start n records spent next = refl
-refused-back ExpectedEqualsSign start n records spent next = refl
-refused-back OffsetPastEnd start n records spent next = refl
+refused-back why start n records spent next =
+    let (long, full) = not-lists why in
+    rw (long, full) (ap (λ (w : Refusal). Refused w start n records spent next) (refusal-back why))
 
 part-back : (r : Part) → partOf (answerOf r) (recordsIn r) (spentIn r) ≡ r
 part-back (End records spent next) = refl

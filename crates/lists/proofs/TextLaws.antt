@@ -216,18 +216,23 @@ list-so r f x = (x, so)
     so q new (inr (h, y)) =
         listing-unique (r .source) (r .from) (r .lent) (answerOf q) (r .answer) (recordsIn q) (r .records) new (r .left) y x
 
+-- rows that are computed to be what is given for them, of texts that are not too long
+every-so : {R : Type 0} (So : R → Type 0) (given : R → List R) (fits : R → Bool) → ((r : R) → given r ≡ r ∷ [] → fits r ≡ true → So r)
+    → (l : List R) → map given l ≡ map (λ r. r ∷ []) l → every fits l ≡ true → Every So l
+every-so So given fits so [] e f = tt
+every-so So given fits so (r ∷ l) e f = (
+  so r (head-eq-of-cons-eq e) (and-left (fits r) (every fits l) f),
+  every-so So given fits so l (tail-eq-of-cons-eq e) (and-right (fits r) (every fits l) f),
+)
+
 -- The rows of the table hold of List.
 pub list-texts : Every ListSo lists
-list-texts = every-row lists computed-lists all-fit
+list-texts = every-so ListSo (λ r. listGiven r (listWalk r)) fits row lists computed-lists all-fit
   where
-    every-row : (l : List ListRow) → map (λ r. listGiven r (listWalk r)) l ≡ map (λ r. r ∷ []) l → every fits l ≡ true → Every ListSo l
-    every-row [] e f = tt
-    every-row (r ∷ l) e f =
+    row : (r : ListRow) → listGiven r (listWalk r) ≡ r ∷ [] → fits r ≡ true → ListSo r
+    row r e f =
         let n = length (r .lent) in
-        let right = from-here (HasRoom n) (hasRoom n) (room-decides n) (r .source) (r .from) 20 in (
-          list-so r (and-left (fits r) (every fits l) f) (list-row r (listWalk r) right (head-eq-of-cons-eq e)),
-          every-row l (tail-eq-of-cons-eq e) (and-right (fits r) (every fits l) f),
-        )
+        list-so r f (list-row r (listWalk r) (from-here (HasRoom n) (hasRoom n) (room-decides n) (r .source) (r .from) 20) e)
 
 -- what a slice answers for a row, if the walk has stopped
 abbrev partGiven : PartRow → Stop → List PartRow
@@ -320,14 +325,11 @@ part-so r f x = (x, so)
 
 -- The rows of the table hold of slices.
 pub part-texts : Every PartSo parts
-part-texts = every-row parts computed-parts all-parts-fit
+part-texts = every-so PartSo (λ r. partGiven r (partWalk r)) partFits row parts computed-parts all-parts-fit
   where
-    every-row : (l : List PartRow) → map (λ r. partGiven r (partWalk r)) l ≡ map (λ r. r ∷ []) l → every partFits l ≡ true → Every PartSo l
-    every-row [] e f = tt
-    every-row (r ∷ l) e f =
+    row : (r : PartRow) → partGiven r (partWalk r) ≡ r ∷ [] → partFits r ≡ true → PartSo r
+    row r e f =
         let n = length (r .lent) in
         let m = r .allowance in
-        let right = from-here (Allowed notBlank n m) (allowed n m) (allowed-decides n m) (r .source) (r .from) 20 in (
-          part-so r (and-left (partFits r) (every partFits l) f) (part-row r (partWalk r) right (head-eq-of-cons-eq e)),
-          every-row l (tail-eq-of-cons-eq e) (and-right (partFits r) (every partFits l) f),
-        )
+        let right = from-here (Allowed notBlank n m) (allowed n m) (allowed-decides n m) (r .source) (r .from) 20 in
+        part-so r f (part-row r (partWalk r) right e)

@@ -59,16 +59,22 @@ listedOf (token k start n next d u) records = End records (cursor next)
 listedOf (end offset) records = End records (cursor offset)
 listedOf (refusal k start n offset) records = refusedOf k start n offset records
 
+-- Next's refusals have none of List's own numbers
+pub not-lists : (why : Refusal) → (eqb (numberOf why) (listRefusal "TooLong") ≡ false) × (eqb (numberOf why) (listRefusal "ListFull") ≡ false)
+not-lists UnrecognizedToken = (refl, refl)
+not-lists UnterminatedLiteral = (refl, refl)
+not-lists BadNumber = (refl, refl)
+not-lists BadFractionalPart = (refl, refl)
+not-lists BadExponentPart = (refl, refl)
+not-lists MalformedHexInteger = (refl, refl)
+not-lists ExpectedEqualsSign = (refl, refl)
+not-lists OffsetPastEnd = (refl, refl)
+
 refused-back : (why : Refusal) (start n records : ℕ) (next : Cursor)
     → refusedOf (numberOf why) start n (next .at) records ≡ Refused why start n records next
-refused-back UnrecognizedToken start n records next = refl
-refused-back UnterminatedLiteral start n records next = refl
-refused-back BadNumber start n records next = refl
-refused-back BadFractionalPart start n records next = refl
-refused-back BadExponentPart start n records next = refl
-refused-back MalformedHexInteger start n records next = refl
-refused-back ExpectedEqualsSign start n records next = refl
-refused-back OffsetPastEnd start n records next = refl
+refused-back why start n records next =
+    let (long, full) = not-lists why in
+    rw (long, full) (ap (λ (w : Refusal). Refused w start n records next) (refusal-back why))
 
 listed-back : (r : Listed) → listedOf (answerOf r) (recordsIn r) ≡ r
 listed-back (End records next) = refl
