@@ -6,6 +6,7 @@ use mathlib.Core.Path.{_≡_, sym, _∙_, ap}
 use mathlib.Core.List.{List}
 use Rattle.grammar.specs.Longest.{source}
 use Rattle.lexer.proofs.Theorems.{unique}
+use Rattle.cuts.proofs.Theorems as cuts
 use Rattle.lists.specs.declared.part.Part.{Part}
 use Rattle.lists.specs.Lists.{recordsIn}
 use Rattle.lists.specs.Parts.{spentIn}
@@ -63,5 +64,5 @@ pub cut-unique : (s : List ℕ) (at profile : ℕ) (lent : List ℕ) (m n : ℕ)
     → CutCall s at profile lent m k → CutCall s at profile lent n l → (m ≡ n) × (k ≡ l)
 cut-unique s at profile lent m n k l =
     by-profile (profileOf profile) _ _ _ _ _
-    (λ p x y. same _ _ m n k l (ap ofCut (lists.cut-unique (source p s) at (x .answer) (y .answer) (x .owed) (y .owed))) (x .gave) (y .gave))
+    (λ p x y. same _ _ m n k l (ap ofCut (cuts.cut-unique (source p s) at (x .answer) (y .answer) (x .owed) (y .owed))) (x .gave) (y .gave))
     (λ x y. (x .0 ∙ sym (y .0), x .1 ∙ sym (y .1)))

@@ -6,12 +6,12 @@ use mathlib.Core.List.{List}
 use Rattle.grammar.specs.Longest.{Source, source}
 use Rattle.lexer.specs.declared.lexed.Lexed.{Lexed}
 use Rattle.lexer.specs.Values.{LexesUnder}
+use Rattle.cuts.specs.declared.Statement.{Statement}
+use Rattle.cuts.specs.Cuts.{Cuts}
 use Rattle.lists.specs.declared.list.Listed.{Listed}
 use Rattle.lists.specs.declared.part.Part.{Part}
-use Rattle.lists.specs.declared.cut.Statement.{Statement}
 use Rattle.lists.specs.Lists.{recordsIn, Lists}
 use Rattle.lists.specs.Parts.{spentIn, Parts}
-use Rattle.lists.specs.Cuts.{Cuts}
 use Rattle.codes.specs.declared.answers.Numbers.{Numbers}
 use Rattle.codes.specs.Told.{ofNext, ofList, ofPart, ofCut, written}
 use Rattle.codes.specs.Profiles.{profileOf, unknownProfile, Under}

@@ -4,14 +4,14 @@ use mathlib.Core.Bool.{cond}
 use mathlib.Core.List.{List, [], _∷_}
 use Rattle.lexer.specs.declared.lexed.Lexed.{Lexed}
 use Rattle.lexer.specs.Values.{valuesOf}
+use Rattle.cuts.specs.declared.Statement.{Statement}
+use Rattle.cuts.specs.Cuts.{CutAnswer, cut, opened, ended, refused}
+use Rattle.cuts.specs.Cuts as Cuts
 use Rattle.lists.specs.declared.list.Listed.{Listed}
 use Rattle.lists.specs.declared.part.Part.{Part}
-use Rattle.lists.specs.declared.cut.Statement.{Statement}
 use Rattle.lists.specs.Lists.{answerOf, recordsIn}
 use Rattle.lists.specs.Parts.{PartAnswer, given, paused}
 use Rattle.lists.specs.Parts as Parts
-use Rattle.lists.specs.Cuts.{CutAnswer, cut, opened, ended, refused}
-use Rattle.lists.specs.Cuts as Cuts
 use Rattle.codes.specs.declared.answers.Numbers.{Numbers}
 use Rattle.codes.specs.Numbers.{five, ofAnswer, kindGiven}
 

@@ -16,12 +16,12 @@ use Rattle.grammar.specs.Classes.{noExponent, wordAfterExponent, noHexdigit, un
 use Rattle.grammar.specs.Answers.{Answer, token, end, refusal, answer}
 use Rattle.grammar.specs.Longest.{Source, Next}
 use Rattle.grammar.proofs.Tokens.{told, whole-token}
-use Rattle.lists.specs.Walk.{Legal, tokenOf, Goes, Always, Passes, Walk}
+use Rattle.walks.specs.Walk.{Legal, tokenOf, Goes, Always, Passes, Walk}
+use Rattle.walks.proofs.WalkLaws.{legal, is-legal, end-no-token, refusal-no-token, passes-most}
 use Rattle.lists.specs.Refusals.{listRefusal}
 use Rattle.lists.specs.Lists.{HasRoom, listFull, listAnswer, Listing}
 use Rattle.lists.specs.Parts.{notBlank, Allowed, PartAnswer, partAnswer, Parting}
 use Rattle.lists.specs.Gapless.{InOneClass, Follow, Each, RunEnds, Ends, Gapless, SliceEnds, GaplessSlice}
-use Rattle.lists.proofs.WalkLaws.{legal, is-legal, end-no-token, refusal-no-token, passes-most}
 
 module _ (goes : Goes) (s : Source) where
   in-one-class : (at : ℕ) (t : Legal) → Next s at (tokenOf t) → InOneClass false s at (t .length) (tokenOf t)

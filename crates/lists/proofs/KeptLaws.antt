@@ -7,7 +7,7 @@ use mathlib.Core.List.{List, [], _∷_, _++_, append-nil}
 use lib.ListN.{length}
 use Rattle.keywords.proofs.Logic.{split}
 use Rattle.records.specs.declared.Record.{Record}
-use Rattle.lists.specs.Walk.{Legal}
+use Rattle.walks.specs.Walk.{Legal}
 use Rattle.lists.specs.Lists.{recordOf, recordsOf}
 use Rattle.lists.specs.Parts.{Keeps, kept}
 

@@ -1,11 +1,9 @@
-pub mod WalkLaws
 pub mod NewlineLaws
 pub mod LinesLaws
 pub mod KeptLaws
 pub mod PassLaws
 pub mod ListLaws
 pub mod PartLaws
-pub mod CutLaws
 pub mod GaplessLaws
 pub mod SliceLaws
 pub mod Theorems

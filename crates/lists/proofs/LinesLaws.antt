@@ -18,9 +18,9 @@ use Rattle.places.proofs.Theorems.{goes-along, column-of}
 use Rattle.grammar.specs.Answers.{token}
 use Rattle.grammar.specs.Longest.{Source, Next}
 use Rattle.grammar.proofs.Tokens.{told}
+use Rattle.walks.proofs.WalkLaws.{legal}
 use Rattle.lists.specs.Lists.{recordOf, longestText}
 use Rattle.lists.specs.Lines.{recordOn, hasNoNewline, isClear, lineBehind}
-use Rattle.lists.proofs.WalkLaws.{legal}
 use Rattle.lists.proofs.NewlineLaws.{no-newline, one-byte}
 
 -- what `line_behind_token` gives, by its tests

@@ -15,12 +15,12 @@ use Rattle.grammar.specs.Longest.{Source}
 use Rattle.lexer.specs.declared.cursor.Cursor.{Cursor}
 use Rattle.lexer.specs.declared.lexed.Refusal.{Refusal}
 use Rattle.lexer.specs.Values.{numberOf}
+use Rattle.walks.specs.Walk.{notNone}
 use Rattle.lists.specs.declared.part.Part.the-variants.{End, Refused, TooLong, Paused, ListFull}
 use Rattle.lists.specs.declared.pass.There.{There}
 use Rattle.lists.specs.declared.pass.There.the-variants.{Lexeme, End as AtEnd, Refused as AtRefusal}
 use Rattle.lists.specs.declared.pass.Stop.{Stop}
 use Rattle.lists.specs.Lists.{listFull, longestText}
-use Rattle.lists.specs.Cuts.{notNone}
 use Rattle.lists.specs.Parts.{Keeps, notBlank, PartAnswer, given, pausedAt, partAnswer, Parting, Parts}
 use Rattle.lists.specs.Passing.{fromKind, Meets, Passing}
 

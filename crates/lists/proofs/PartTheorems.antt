@@ -24,16 +24,16 @@ use Rattle.lexer.specs.Values.{numberOf}
 use Rattle.lexer.proofs.Theorems.{refusalOf, refusal-back}
 use Rattle.records.specs.declared.Record.{Record}
 use Rattle.records.specs.Records.{width, atFront}
+use Rattle.walks.specs.Walk.{Legal, tokenOf, Goes, Always, Walk}
+use Rattle.walks.proofs.WalkLaws.{legal, is-legal, walk-one}
 use Rattle.lists.specs.declared.part.Part.{Part}
 use Rattle.lists.specs.declared.part.Part.the-variants.{End, Refused, TooLong, Paused, ListFull}
 use Rattle.lists.specs.Refusals.{listRefusal}
-use Rattle.lists.specs.Walk.{Legal, tokenOf, Goes, Always, Walk}
 use Rattle.lists.specs.Lists.{listFull, listAnswer, longestText, Listing}
 use Rattle.lists.specs.Parts.{notBlank, kept, Allowed, PartAnswer, given, paused, pausedAt, partAnswer, Parting}
 use Rattle.lists.specs.Parts.{answerOf, recordsIn, spentIn, Parts}
 use Rattle.lists.specs.Slices.{Slice, Sliced, total, readFirst, readAll, Full, withoutNone}
 use Rattle.lists.specs.Gapless.{InOneClass, SliceEnds, GaplessSlice}
-use Rattle.lists.proofs.WalkLaws.{legal, is-legal, walk-one}
 use Rattle.lists.proofs.GaplessLaws.{gapless-slice, never-full}
 use Rattle.lists.proofs.Theorems.{not-lists}
 use Rattle.lists.proofs.SliceLaws.{AtMost, written, front-first, paused-there, Run, run-of, run-more, run-slices}

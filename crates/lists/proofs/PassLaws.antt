@@ -20,15 +20,15 @@ use Rattle.lexer.specs.declared.cursor.Cursor.{Cursor}
 use Rattle.lexer.specs.declared.lexed.Refusal.{Refusal}
 use Rattle.lexer.specs.declared.lexed.Lexed.the-variants.{Token, End as Over, Refused as Bad}
 use Rattle.lexer.specs.Values.{LexesUnder, valuesOf, numberOf}
+use Rattle.walks.specs.Walk.{Legal, tokenOf, Goes, Passes, Walk}
+use Rattle.walks.proofs.WalkLaws.{legal, legalOf, token-told, token-passes, passes-count, end-no-token, refusal-no-token}
 use Rattle.lists.specs.declared.pass.There.{There}
 use Rattle.lists.specs.declared.pass.There.the-variants.{Lexeme, End, Refused}
 use Rattle.lists.specs.declared.pass.Stop.{Stop}
-use Rattle.lists.specs.Walk.{Legal, tokenOf, Goes, Passes, Walk}
 use Rattle.lists.specs.Lists.{recordOf, recordsOf, longestText}
 use Rattle.lists.specs.Parts.{kept, Allowed}
 use Rattle.lists.specs.Lines.{recordOn, lineBehind}
 use Rattle.lists.specs.Passing.{stopOf, fromKind, Meets, Passing}
-use Rattle.lists.proofs.WalkLaws.{legal, legalOf, token-told, token-passes, passes-count, end-no-token, refusal-no-token}
 use Rattle.lists.proofs.LinesLaws.{behind-token, record-made}
 use Rattle.lists.proofs.KeptLaws.{records-append, records-many, kept-few, kept-one, kept-none}
 

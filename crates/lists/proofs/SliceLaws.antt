@@ -14,11 +14,11 @@ use Rattle.grammar.specs.Longest.{Source, Next}
 use Rattle.records.specs.declared.Record.{Record}
 use Rattle.records.specs.Records.{readBack, atFront}
 use Rattle.records.proofs.Theorems.{front-read}
-use Rattle.lists.specs.Walk.{Legal, tokenOf, Goes, Always, Passes, Walk}
+use Rattle.walks.specs.Walk.{Legal, tokenOf, Goes, Always, Passes, Walk}
+use Rattle.walks.proofs.WalkLaws.{legal, is-legal, end-no-token, refusal-no-token, passes-also, passes-most}
 use Rattle.lists.specs.Lists.{recordOf, recordsOf, HasRoom, listFull, listAnswer, Listing}
 use Rattle.lists.specs.Parts.{notBlank, kept, Allowed, PartAnswer, given, pausedAt, partAnswer, Parting}
 use Rattle.lists.specs.Slices.{Slice, From, Sliced, total, readFirst, readAll, Full, withoutNone}
-use Rattle.lists.proofs.WalkLaws.{legal, is-legal, end-no-token, refusal-no-token, passes-also, passes-most}
 use Rattle.lists.proofs.KeptLaws.{records-append, records-many, kept-append}
 
 -- it passes so many lexemes

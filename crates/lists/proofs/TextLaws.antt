@@ -1,104 +1,32 @@
 -- The tables of texts hold. Assumes nothing.
-use Prim.Native.Nat.{ℕ, zero, suc, _+_, _*_}
+use Prim.Native.Nat.{ℕ, _+_, _*_}
 use native.Mathlib.Omega.{arith}
 use mathlib.Core.Path.{_≡_, refl, sym, _∙_, ap, subst}
-use mathlib.Core.Bool.{Bool, true, false, cond, not, _&&_, _||_, true≢false}
-use mathlib.Core.List.{List, [], _∷_, _++_, map, nil≢cons, head-eq-of-cons-eq, tail-eq-of-cons-eq}
+use mathlib.Core.Bool.{Bool, true, false, not, _&&_, _||_, true≢false}
+use mathlib.Core.List.{List, [], _∷_, map, nil≢cons, head-eq-of-cons-eq, tail-eq-of-cons-eq}
 use mathlib.Core.Logic.{inl, inr}
-use lib.Dec.{T, eqb, leb, ltb, eqb→eq, leb→le, le→leb}
+use lib.Dec.{T, eqb, leb, ltb, leb→le, le→leb}
 use lib.ListN.{length}
 use borrow.Author.Tests.{leb-true, le-leb, ltb-true, lt-ltb}
-use Rattle.keywords.specs.Kinds.{kind}
-use Rattle.keywords.proofs.Logic.{split, and-left, and-right, every}
+use Rattle.keywords.proofs.Logic.{and-left, and-right, every}
 use Rattle.keywords.specs.Words.{wordList}
 use Rattle.words.specs.Bytes.{isDigit, isHexdigit, isIdentifierStart, isIdentifierContinue, isBlank}
 use Rattle.words.specs.Word.{upper, kindOf}
-use Rattle.triggers.proofs.EndLaws.{endsNow, ends-now}
 use Rattle.grammar.specs.Classes.{operators, rules}
-use Rattle.grammar.specs.Answers.{Answer, token, end, refusal, answer}
-use Rattle.grammar.specs.Longest.{Every, Source, Next}
-use Rattle.grammar.proofs.Model.{next}
-use Rattle.grammar.proofs.Lexemes.{next-gives}
-use Rattle.grammar.proofs.Theorems.{sound}
+use Rattle.grammar.specs.Answers.{answer}
+use Rattle.grammar.specs.Longest.{Every}
 use Rattle.records.specs.Records.{width, numbersOfAll, atFront}
 use Rattle.places.specs.Places.{newlines, sinceNewline, lineAt, columnAt}
-use Rattle.lists.specs.Walk.{Legal, Goes, Passes}
+use Rattle.walks.specs.Walk.{Legal}
+use Rattle.walks.proofs.Computed.{Stop, nowhere, stop, Test, walk, Decides, Right, from-here}
 use Rattle.lists.specs.declared.list.Listed.{Listed}
-use Rattle.lists.specs.declared.cut.Statement.{Statement}
 use Rattle.lists.specs.Lists.{recordsOf, HasRoom, listAnswer, Listing, answerOf, recordsIn, longestText, Lists}
-use Rattle.lists.specs.Cuts.{CutAnswer, kindsOf, Within, someNotNone, cutAnswer, Cutting, valuesOf, Cuts}
 use Rattle.lists.specs.declared.part.Part.{Part}
 use Rattle.lists.specs.Parts.{notBlank, kept, Allowed, partAnswer, Parting, Parts}
 use Rattle.lists.specs.Parts as parting
-use Rattle.lists.specs.Texts.{CutRow, cuts, ListRow, lists, PartRow, parts}
-use Rattle.lists.proofs.WalkLaws.{legal, legalOf, Stuck, token-passes, end-no-token, refusal-no-token}
-use Rattle.lists.proofs.Theorems.{listing-unique, cutting-unique}
+use Rattle.lists.specs.Texts.{ListRow, lists, PartRow, parts}
+use Rattle.lists.proofs.Theorems.{listing-unique}
 use Rattle.lists.proofs.PartTheorems.{parting-unique}
-
--- a walk as the model computes it, with a test for what it passes: where it stops, or nothing if that takes more steps than these
-data Stop : Type 0 where
-  nowhere : Stop
-  stop : (passed : List Legal) (to : ℕ) (there : Answer) → Stop
-
-abbrev Test : Type 0
-Test = List Legal → Legal → Bool
-
--- a lexeme that passes leads on; another, End and a refusal stop the walk
-abbrev turn : Test → List Legal → ℕ → (List Legal → ℕ → Stop) → Answer → Stop
-turn test l at more (token k start n behind d u) =
-    let t = legal k start n d u in
-    cond (test l t) (more (l ++ (t ∷ [])) behind) (stop l at (token k start n behind d u))
-turn test l at more (end offset) = stop l at (end offset)
-turn test l at more (refusal k start n offset) = stop l at (refusal k start n offset)
-
-abbrev walk : ℕ → Test → Source → List Legal → ℕ → Stop
-walk zero test s l at = nowhere
-walk (suc fuel) test s l at = turn test l at (walk fuel test s) (next (rules (s .profile)) (s .text) at)
-
--- the test says what the walk passes
-record Decides (goes : Goes) (test : Test) : Type 0 where
-  yes : (l : List Legal) (t : Legal) → test l t ≡ true → goes l t
-  not : (l : List Legal) (t : Legal) → test l t ≡ false → goes l t → ⊥
-
--- it is that of the definitions
-abbrev Right : Goes → Source → ℕ → Stop → Type 0
-Right goes s from nowhere = Unit {0}
-Right goes s from (stop l to there) = Passes goes s [] from l to × Next s to there × Stuck goes there l
-
-module _ (goes : Goes) (test : Test) (d : Decides goes test) (s : Source) (from : ℕ) where
-  turn-right : (l : List Legal) (at : ℕ) (more : List Legal → ℕ → Stop) (a : Answer) → Passes goes s [] from l at → Next s at a
-      → ((m : List Legal) (to : ℕ) → Passes goes s [] from m to → Right goes s from (more m to)) → Right goes s from (turn test l at more a)
-  turn-right l at more (end offset) p g r = (p, g, λ t e o. end-no-token offset t e)
-  turn-right l at more (refusal k start n offset) p g r = (p, g, λ t e o. refusal-no-token k start n offset t e)
-  turn-right l at more (token k start n behind i u) p g r =
-      let t = legal k start n i u in
-      split (test l t)
-      (λ e. rw e (r (l ++ (t ∷ [])) behind (token-passes goes s from l at k start n behind i u p g (d .yes l t e))))
-      (λ e. rw e (p, g, λ u f q. d .not l t e (subst (goes l) (sym (ap legalOf f)) q)))
-
-  walk-right : (fuel : ℕ) (l : List Legal) (at : ℕ) → Passes goes s [] from l at → Right goes s from (walk fuel test s l at)
-  walk-right zero l at p = tt
-  walk-right (suc fuel) l at p = turn-right l at (walk fuel test s) (next (rules (s .profile)) (s .text) at) p (next-gives (rules (s .profile)) (sound (s .profile)) (s .text) at) (walk-right fuel)
-
-  from-here : (fuel : ℕ) → Right goes s from (walk fuel test s [] from)
-  unfolding Passes
-  from-here fuel = walk-right fuel [] from refl
-
--- what the cut of a row answers, if the walk has stopped
-abbrev cutGiven : CutRow → Stop → List CutAnswer
-cutGiven r nowhere = []
-cutGiven r (stop l to there) = cutAnswer (r .from) (someNotNone l) there ∷ []
-
--- no semicolon that ends the statement
-abbrev within : Test
-within l t = not (eqb (t .kind) (kind "TK_SEMI") && endsNow (kindsOf l))
-
-abbrev cutWalk : CutRow → Stop
-cutWalk r = walk 40 within (r .source) [] (r .from)
-
-computed-cuts : map (λ r. cutGiven r (cutWalk r)) cuts ≡ map (λ r. r .answer ∷ []) cuts
-unfolding cuts someNotNone kindsOf rules operators isDigit isHexdigit isIdentifierStart isIdentifierContinue isBlank answer kindOf upper wordList
-computed-cuts = refl
 
 -- what List answers for a row, if the walk has stopped
 abbrev listGiven : ListRow → Stop → List ListRow
@@ -124,58 +52,8 @@ computed-lists : map (λ r. listGiven r (listWalk r)) lists ≡ map (λ r. r ∷
 unfolding lists recordsOf numbersOfAll lineAt columnAt newlines sinceNewline rules operators isDigit isHexdigit isIdentifierStart isIdentifierContinue isBlank answer kindOf upper wordList
 computed-lists = refl
 
-within-decides : Decides Within within
-within-decides = record { yes = passes; not = stops }
-  where
-    not-false : (b : Bool) → not b ≡ false → b ≡ true
-    not-false true e = refl
-    not-false false e = sym e
-
-    semi : (k : ℕ) → k ≡ kind "TK_SEMI" → eqb k (kind "TK_SEMI") ≡ true
-    semi k e = rw e refl
-
-    passes : (l : List Legal) (t : Legal) → within l t ≡ true → Within l t
-    passes l t e (is, ends) =
-        let p = ap (λ (b : Bool). not (b && endsNow (kindsOf l))) (semi (t .kind) is) in
-        let q = ap (λ (b : Bool). not (true && b)) (ends-now (kindsOf l) .1 ends) in
-        true≢false (sym e ∙ p ∙ q)
-
-    stops : (l : List Legal) (t : Legal) → within l t ≡ false → Within l t → ⊥
-    stops l t e o =
-        let both = not-false (eqb (t .kind) (kind "TK_SEMI") && endsNow (kindsOf l)) e in
-        let is = and-left (eqb (t .kind) (kind "TK_SEMI")) (endsNow (kindsOf l)) both in
-        let ends = and-right (eqb (t .kind) (kind "TK_SEMI")) (endsNow (kindsOf l)) both in
-        o (eqb→eq (t .kind) (kind "TK_SEMI") (subst T (sym is) tt), ends-now (kindsOf l) .0 ends)
-
 room-decides : (numbers : ℕ) → Decides (HasRoom numbers) (hasRoom numbers)
 room-decides numbers = record { yes = λ l t e. leb→le _ _ (subst T (sym e) tt); not = λ l t e h. subst T e (le→leb _ _ h) }
-
-cut-row : (r : CutRow) (w : Stop) → Right Within (r .source) (r .from) w → cutGiven r w ≡ r .answer ∷ []
-    → Cutting (r .source) (r .from) (r .answer)
-cut-row r nowhere x e = absurd (nil≢cons e)
-cut-row r (stop l to there) (p, g, stuck) e =
-    record {
-      walk = record { passed = l; to = to; passes = p; there = there; gives = g; stops = stuck };
-      answers = sym (head-eq-of-cons-eq e);
-    }
-
--- a row's answer is that of the definition, and whatever meets the contract of `cut` answers so
-abbrev pub CutSo : CutRow → Type 0
-CutSo r = Cutting (r .source) (r .from) (r .answer) × ((q : Statement) → Cuts (r .source) (r .from) q → valuesOf q ≡ r .answer)
-
-cut-so : (r : CutRow) → Cutting (r .source) (r .from) (r .answer) → CutSo r
-unfolding Cuts
-cut-so r x = (x, λ q y. cutting-unique (r .source) (r .from) (valuesOf q) (r .answer) y x)
-
--- The rows of the table hold of the cut.
-pub cut-texts : Every CutSo cuts
-cut-texts = every-row cuts computed-cuts
-  where
-    every-row : (l : List CutRow) → map (λ r. cutGiven r (cutWalk r)) l ≡ map (λ r. r .answer ∷ []) l → Every CutSo l
-    every-row [] e = tt
-    every-row (r ∷ l) e =
-        let right = from-here Within within within-decides (r .source) (r .from) 40 in
-        (cut-so r (cut-row r (cutWalk r) right (head-eq-of-cons-eq e)), every-row l (tail-eq-of-cons-eq e))
 
 -- List gives what a row says; an answer and a list are those of a row
 abbrev pub RowListing : ListRow → Type 0

@@ -11,7 +11,7 @@ use Rattle.grammar.specs.Classes.{Class, malformed, rules}
 use Rattle.grammar.specs.Answers.{Answer, end, pastEnd, answer}
 use Rattle.grammar.specs.Longest.{Every, Longest, Source}
 use Rattle.records.specs.Records.{atFront}
-use Rattle.lists.specs.Walk.{Legal, tokenOf}
+use Rattle.walks.specs.Walk.{Legal, tokenOf}
 use Rattle.lists.specs.Lists.{recordsOf, listFull, HasRoom}
 use Rattle.lists.specs.Parts.{PartAnswer, given, pausedAt, notBlank, kept}
 

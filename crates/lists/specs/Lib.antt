@@ -1,8 +1,6 @@
 pub mod Refusals
-pub mod Walk
 pub mod Lists
 pub mod Lines
-pub mod Cuts
 pub mod Parts
 pub mod Passing
 pub mod Slices

@@ -10,10 +10,10 @@ use Rattle.lexer.specs.Values.{numberOf}
 use Rattle.records.specs.declared.Record.{Record}
 use Rattle.records.specs.Records.{width, atFront}
 use Rattle.places.specs.Places.{lineAt, columnAt}
+use Rattle.walks.specs.Walk.{Legal, Goes, Walk}
 use Rattle.lists.specs.declared.list.Listed.{Listed}
 use Rattle.lists.specs.declared.list.Listed.the-variants.{End, Refused, TooLong, ListFull}
 use Rattle.lists.specs.Refusals.{listRefusal}
-use Rattle.lists.specs.Walk.{Legal, Goes, Walk}
 
 -- a lexeme's record, with the line and column of its start
 abbrev pub recordOf : List ℕ → Legal → Record

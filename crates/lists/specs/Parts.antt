@@ -11,11 +11,10 @@ use Rattle.grammar.specs.Answers.{Answer, token, end, refusal}
 use Rattle.grammar.specs.Longest.{Source}
 use Rattle.lexer.specs.Values.{numberOf}
 use Rattle.records.specs.Records.{atFront}
+use Rattle.walks.specs.Walk.{Legal, notNone, Goes, Walk}
 use Rattle.lists.specs.declared.part.Part.{Part}
 use Rattle.lists.specs.declared.part.Part.the-variants.{End, Refused, TooLong, Paused, ListFull}
-use Rattle.lists.specs.Walk.{Legal, Goes, Walk}
 use Rattle.lists.specs.Lists.{recordsOf, HasRoom, listFull, tooLong, longestText}
-use Rattle.lists.specs.Cuts.{notNone}
 
 -- which lexemes get a record
 abbrev pub Keeps : Type 0

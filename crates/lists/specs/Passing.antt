@@ -9,10 +9,10 @@ use Rattle.grammar.specs.Longest.{Source}
 use Rattle.lexer.specs.declared.cursor.Cursor.{Cursor}
 use Rattle.lexer.specs.Values.{numberOf}
 use Rattle.records.specs.Records.{width, atFront}
+use Rattle.walks.specs.Walk.{Walk}
 use Rattle.lists.specs.declared.pass.There.{There}
 use Rattle.lists.specs.declared.pass.There.the-variants.{Lexeme, End, Refused}
 use Rattle.lists.specs.declared.pass.Stop.{Stop}
-use Rattle.lists.specs.Walk.{Walk}
 use Rattle.lists.specs.Lists.{recordsOf}
 use Rattle.lists.specs.Parts.{Keeps, kept, Allowed}
 

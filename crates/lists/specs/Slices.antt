@@ -8,8 +8,8 @@ use lib.ListN.{take}
 use Rattle.grammar.specs.Longest.{Source}
 use Rattle.records.specs.declared.Record.{Record}
 use Rattle.records.specs.Records.{readBack}
+use Rattle.walks.specs.Walk.{notNone}
 use Rattle.lists.specs.Lists.{listFull}
-use Rattle.lists.specs.Cuts.{notNone}
 use Rattle.lists.specs.Parts.{PartAnswer, given, pausedAt, Parting}
 
 -- a call, with what it was given and what it gave

@@ -12,8 +12,8 @@ use Rattle.grammar.specs.Answers.{Answer, token, end, refusal, answer}
 use Rattle.grammar.specs.Longest.{Longest, Source, source, Next}
 use Rattle.grammar.proofs.Tokens.{told}
 use Rattle.grammar.proofs.Unique.{longest-unique, gives-unique}
-use Rattle.lists.specs.Walk.{Legal, Goes, tokenOf, Passes}
-use Rattle.lists.proofs.WalkLaws.{legalOf}
+use Rattle.walks.specs.Walk.{Legal, Goes, tokenOf, Passes}
+use Rattle.walks.proofs.WalkLaws.{legalOf}
 use Rattle.intake.specs.Takes.{limit}
 use Rattle.parting.specs.Means.{Says, Open}
 use Rattle.parting.specs.Histories.{Short, endOf}

@@ -21,7 +21,7 @@ use Rattle.grammar.specs.Classes.{Class, rules}
 use Rattle.grammar.specs.Answers.{Answer, token, end, refusal, answer}
 use Rattle.grammar.specs.Longest.{Every, Longest, source, Next}
 use Rattle.ahead.proofs.Each.{each-class}
-use Rattle.lists.specs.Walk.{Legal, Passes}
+use Rattle.walks.specs.Walk.{Legal, Passes}
 use Rattle.intake.specs.declared.state.Phase.{Phase}
 use Rattle.intake.specs.declared.state.Phase.the-variants as Ph
 use Rattle.intake.specs.declared.state.Stream.{Stream}

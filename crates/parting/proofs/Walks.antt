@@ -13,7 +13,7 @@ use Rattle.grammar.specs.declared.profile.Profile.{Profile}
 use Rattle.grammar.specs.Classes.{Class, rules}
 use Rattle.grammar.specs.Answers.{Answer, token, end, refusal, answer}
 use Rattle.grammar.specs.Longest.{Every, Longest, Gives, source, Next}
-use Rattle.lists.specs.Walk.{Legal, tokenOf, Passes}
+use Rattle.walks.specs.Walk.{Legal, tokenOf, Passes}
 use Rattle.intake.specs.declared.state.Phase.{Phase}
 use Rattle.intake.specs.declared.state.Phase.the-variants as Ph
 use Rattle.intake.specs.declared.state.Stream.{Stream}

@@ -9,7 +9,7 @@ use lib.ListN.{length, take}
 use Rattle.grammar.specs.declared.profile.Profile.{Profile}
 use Rattle.grammar.specs.Answers.{Answer, token, end, refusal}
 use Rattle.grammar.specs.Longest.{Every, source}
-use Rattle.lists.specs.Walk.{Legal, Goes, Passes}
+use Rattle.walks.specs.Walk.{Legal, Goes, Passes}
 use Rattle.intake.specs.declared.state.Stream.{Stream}
 use Rattle.stream.specs.declared.stream.Given.{Given}
 use Rattle.stream.specs.Refusals.{streamRefusal, own}

@@ -25,11 +25,11 @@ use Rattle.lexer.specs.declared.lexed.Lexed.{Lexed}
 use Rattle.lexer.specs.declared.lexed.Lexed.the-variants.{Token, End as Over, Refused as Bad}
 use Rattle.lexer.specs.Values.{LexesUnder, numberOf}
 use Rattle.lexer.proofs.lexed.Lexed as Lexed-is
-use Rattle.lists.specs.declared.cut.Statement.{Statement}
-use Rattle.lists.specs.declared.cut.Statement.the-variants.{Cut, Refused}
-use Rattle.lists.specs.Walk.{Legal, tokenOf, Passes}
-use Rattle.lists.specs.Cuts.{CutAnswer, kindsOf, Within, notNone, someNotNone, cutAnswer, Cutting, valuesOf, Cuts}
-use Rattle.lists.proofs.WalkLaws.{legal, token-passes, end-no-token, refusal-no-token, passes-ahead}
+use Rattle.walks.specs.Walk.{Legal, tokenOf, notNone, Passes}
+use Rattle.walks.proofs.WalkLaws.{legal, token-passes, end-no-token, refusal-no-token, passes-ahead}
+use Rattle.cuts.specs.declared.Statement.{Statement}
+use Rattle.cuts.specs.declared.Statement.the-variants.{Cut, Refused}
+use Rattle.cuts.specs.Cuts.{CutAnswer, kindsOf, Within, someNotNone, cutAnswer, Cutting, valuesOf, Cuts}
 
 pub not-none : (k : ℕ) (b : Bool) → (k ≡ kind "TK_NONE" → ⊥) → true ≡ notNone k || b
 not-none k b other =
