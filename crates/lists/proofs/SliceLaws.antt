@@ -3,7 +3,7 @@ use Prim.Native.Nat.{ℕ, _+_, _<_}
 use native.Mathlib.Omega.{arith}
 use mathlib.Core.Path.{_≡_, refl, sym, _∙_, ap, ap₂, subst}
 use mathlib.Core.Bool.{Bool, true, false}
-use mathlib.Core.List.{List, [], _∷_, _++_, append-assoc, append-nil}
+use mathlib.Core.List.{List, [], _∷_, _++_, append-nil}
 use lib.Dec.{eqb}
 use lib.ListN.{length, take, length-append}
 use lib.Seq.{take-at}
@@ -15,7 +15,7 @@ use Rattle.records.specs.declared.Record.{Record}
 use Rattle.records.specs.Records.{readBack, atFront}
 use Rattle.records.proofs.Theorems.{front-read}
 use Rattle.walks.specs.Walk.{Legal, tokenOf, Goes, Always, Passes, Walk}
-use Rattle.walks.proofs.WalkLaws.{legal, is-legal, end-no-token, refusal-no-token, passes-also, passes-most}
+use Rattle.walks.proofs.WalkLaws.{legal, is-legal, end-no-token, refusal-no-token, passes-also, passes-behind, passes-append, passes-most}
 use Rattle.lists.specs.Lists.{recordOf, recordsOf, HasRoom, listFull, listAnswer, Listing}
 use Rattle.lists.specs.Parts.{notBlank, kept, Allowed, PartAnswer, given, pausedAt, partAnswer, Parting}
 use Rattle.lists.specs.Slices.{Slice, From, Sliced, total, readFirst, readAll, Full, withoutNone}
@@ -39,27 +39,6 @@ pub front-first : (s : Source) (l : List Legal) (n : ℕ) (old new : List ℕ) �
 front-first s l n old new e f =
     ap (λ (x : List ℕ). take n (readBack x)) f ∙ ap (take n) (front-read (recordsOf (s .text) l) old) ∙
     take-at (recordsOf (s .text) l) _ n (records-many (s .text) l ∙ sym e)
-
--- a walk behind lexemes that were passed before
-passes-behind : (goes goes′ : Goes) (p : List Legal) → ((b : List Legal) (t : Legal) → goes b t → goes′ (p ++ b) t)
-    → (s : Source) (before : List Legal) (from : ℕ) (l : List Legal) (to : ℕ)
-    → Passes goes s before from l to → Passes goes′ s (p ++ before) from l to
-unfolding Passes
-passes-behind goes goes′ p f s before from [] to x = x
-passes-behind goes goes′ p f s before from (t ∷ l) to (e, g, o, x) =
-    let more = passes-behind goes goes′ p f s (before ++ (t ∷ [])) (from + t .length) l to x in
-    let same = sym (append-assoc p before (t ∷ [])) in
-    (e, g, f before t o, subst (λ (b : List Legal). Passes goes′ s b (from + t .length) l to) same more)
-
-passes-append : (goes : Goes) (s : Source) (before : List Legal) (from : ℕ) (l : List Legal) (mid : ℕ) (m : List Legal) (to : ℕ)
-    → Passes goes s before from l mid → Passes goes s (before ++ l) mid m to → Passes goes s before from (l ++ m) to
-unfolding Passes
-passes-append goes s before from [] mid m to e q =
-    let q = subst (λ (b : List Legal). Passes goes s b mid m to) (append-nil before) q in
-    subst (λ (a : ℕ). Passes goes s before a m to) (sym e) q
-passes-append goes s before from (t ∷ l) mid m to (e, g, o, p) q =
-    let q = subst (λ (b : List Legal). Passes goes s b mid m to) (sym (append-assoc before (t ∷ []) l)) q in
-    (e, g, o, passes-append goes s (before ++ (t ∷ [])) (from + t .length) l mid m to p q)
 
 -- a walk that has spent its allowance, and one from where it stopped, are one
 join : (s : Source) (from m n : ℕ) (v : Walk (AtMost m) s from) → length (v .passed) ≡ m → Walk (AtMost n) s (v .to) → Walk (AtMost (m + n)) s from

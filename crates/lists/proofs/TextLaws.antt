@@ -3,7 +3,7 @@ use Prim.Native.Nat.{ℕ, _+_, _*_}
 use native.Mathlib.Omega.{arith}
 use mathlib.Core.Path.{_≡_, refl, sym, _∙_, ap, subst}
 use mathlib.Core.Bool.{Bool, true, false, not, _&&_, _||_, true≢false}
-use mathlib.Core.List.{List, [], _∷_, map, nil≢cons, head-eq-of-cons-eq, tail-eq-of-cons-eq}
+use mathlib.Core.List.{List, [], _∷_, map, nil≢cons, head-eq-of-cons-eq}
 use mathlib.Core.Logic.{inl, inr}
 use lib.Dec.{T, eqb, leb, ltb, leb→le, le→leb}
 use lib.ListN.{length}
@@ -18,7 +18,7 @@ use Rattle.grammar.specs.Longest.{Every}
 use Rattle.records.specs.Records.{width, numbersOfAll, atFront}
 use Rattle.places.specs.Places.{newlines, sinceNewline, lineAt, columnAt}
 use Rattle.walks.specs.Walk.{Legal}
-use Rattle.walks.proofs.Computed.{Stop, nowhere, stop, Test, walk, Decides, Right, from-here}
+use Rattle.walks.proofs.Computed.{Stop, nowhere, stop, Test, walk, Decides, Right, from-here, every-so}
 use Rattle.lists.specs.declared.list.Listed.{Listed}
 use Rattle.lists.specs.Lists.{recordsOf, HasRoom, listAnswer, Listing, answerOf, recordsIn, longestText, Lists}
 use Rattle.lists.specs.declared.part.Part.{Part}
@@ -93,15 +93,6 @@ list-so r f x = (x, so)
     so q new (inl (h, x, y, z)) = let l = leb→le (length (r .source .text)) longestText (subst T (sym f) tt) in absurd (omega arith)
     so q new (inr (h, y)) =
         listing-unique (r .source) (r .from) (r .lent) (answerOf q) (r .answer) (recordsIn q) (r .records) new (r .left) y x
-
--- rows that are computed to be what is given for them, of texts that are not too long
-every-so : {R : Type 0} (So : R → Type 0) (given : R → List R) (fits : R → Bool) → ((r : R) → given r ≡ r ∷ [] → fits r ≡ true → So r)
-    → (l : List R) → map given l ≡ map (λ r. r ∷ []) l → every fits l ≡ true → Every So l
-every-so So given fits so [] e f = tt
-every-so So given fits so (r ∷ l) e f = (
-  so r (head-eq-of-cons-eq e) (and-left (fits r) (every fits l) f),
-  every-so So given fits so l (tail-eq-of-cons-eq e) (and-right (fits r) (every fits l) f),
-)
 
 -- The rows of the table hold of List.
 pub list-texts : Every ListSo lists

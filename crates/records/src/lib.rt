@@ -5,7 +5,8 @@ ghost use Rattle.records.specs.Records.{isFree, withRecord};
 // How many numbers a record has.
 pub const WIDTH: usize = 5;
 
-// A token's kind and span, and the line and column of its start.
+// A token's kind and span, and the line and column of its start; laid out as C has it, which lends lists of them.
+#[repr(C)]
 pub struct Record {
     pub kind: u32,
     pub start: u32,

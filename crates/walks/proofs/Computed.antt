@@ -2,11 +2,11 @@
 use Prim.Native.Nat.{ℕ, zero, suc}
 use mathlib.Core.Path.{_≡_, refl, sym, ap, subst}
 use mathlib.Core.Bool.{Bool, true, false, cond}
-use mathlib.Core.List.{List, [], _∷_, _++_}
-use Rattle.keywords.proofs.Logic.{split}
+use mathlib.Core.List.{List, [], _∷_, _++_, map, head-eq-of-cons-eq, tail-eq-of-cons-eq}
+use Rattle.keywords.proofs.Logic.{split, and-left, and-right, every}
 use Rattle.grammar.specs.Classes.{rules}
 use Rattle.grammar.specs.Answers.{Answer, token, end, refusal}
-use Rattle.grammar.specs.Longest.{Source, Next}
+use Rattle.grammar.specs.Longest.{Every, Source, Next}
 use Rattle.grammar.proofs.Model.{next}
 use Rattle.grammar.proofs.Lexemes.{next-gives}
 use Rattle.grammar.proofs.Theorems.{sound}
@@ -61,3 +61,12 @@ module _ (goes : Goes) (test : Test) (d : Decides goes test) (s : Source) (from 
   pub from-here : (fuel : ℕ) → Right goes s from (walk fuel test s [] from)
   unfolding Passes
   from-here fuel = walk-right fuel [] from refl
+
+-- rows that are computed to be what is given for them, of texts that are not too long
+pub every-so : {R : Type 0} (So : R → Type 0) (given : R → List R) (fits : R → Bool) → ((r : R) → given r ≡ r ∷ [] → fits r ≡ true → So r)
+    → (l : List R) → map given l ≡ map (λ r. r ∷ []) l → every fits l ≡ true → Every So l
+every-so So given fits so [] e f = tt
+every-so So given fits so (r ∷ l) e f = (
+  so r (head-eq-of-cons-eq e) (and-left (fits r) (every fits l) f),
+  every-so So given fits so l (tail-eq-of-cons-eq e) (and-right (fits r) (every fits l) f),
+)

@@ -1,0 +1,4 @@
+pub mod AgreeLaws
+pub mod StepLaws
+pub mod Theorems
+pub mod TextLaws

@@ -1,0 +1,4 @@
+pub mod Refusals
+pub mod Agreeing
+pub mod Steps
+pub mod Texts
