@@ -3,20 +3,19 @@ use Prim.Native.Nat.{ℕ, suc, _+_, _-_, _≤_, _<_}
 use native.Mathlib.Omega.{arith}
 use native.Mathlib.Numerals.{add-one}
 use mathlib.Core.Path.{_≡_, refl, sym, _∙_, ap, subst}
-use mathlib.Core.Bool.{Bool, true, false, cond, not, _&&_, true≢false}
+use mathlib.Core.Bool.{Bool, true, false, cond, not, _&&_}
 use mathlib.Core.List.{List, [], _∷_, _++_, append-assoc, append-nil}
 use mathlib.Core.Logic.{inl, inr}
 use lib.Dec.{eqb}
 use lib.ListN.{length, getD, drop, length-append, drop-of-length-le}
 use lib.Seq.{drop-cons, slice}
-use borrow.Author.Tests.{eqb-true, eq-eqb, ne-eqb}
-use Rattle.keywords.proofs.Logic.{split, and-left, and-right, and-false}
+use borrow.Author.Tests.{eqb-true, eq-eqb}
+use Rattle.keywords.proofs.Logic.{split, and-left, and-right}
 use Rattle.grammar.specs.Classes.{rules}
 use Rattle.grammar.specs.Answers.{Answer, token, end, refusal, isRefusal}
 use Rattle.grammar.specs.Longest.{Source, Next}
 use Rattle.grammar.proofs.Unique.{gives-unique}
 use Rattle.grammar.proofs.Tokens.{told}
-use Rattle.lexer.specs.Eaten.{cursor}
 use Rattle.records.specs.declared.Record.{Record}
 use Rattle.records.specs.Records.{recordOf as five}
 use Rattle.places.specs.declared.Line.{Line}
@@ -26,12 +25,12 @@ use Rattle.walks.specs.Walk.{Legal, tokenOf, Always, Passes, Walk}
 use Rattle.walks.proofs.WalkLaws.{legal, is-legal, passes-on, passes-behind, passes-append, run}
 use Rattle.lists.specs.Lists.{recordOf, recordsOf, longestText}
 use Rattle.lists.specs.Lines.{recordOn}
-use Rattle.lists.proofs.KeptLaws.{records-append, records-many}
+use Rattle.lists.proofs.KeptLaws.{records-append}
 use Rattle.lists.proofs.LinesLaws.{record-made}
 use Rattle.agreeing.specs.declared.Checked.{Checked}
-use Rattle.agreeing.specs.declared.Checked.the-variants.{Accepted, TooLong, ListDiffers}
+use Rattle.agreeing.specs.declared.Checked.the-variants.{TooLong, ListDiffers}
 use Rattle.agreeing.specs.declared.step.Place.{Place}
-use Rattle.agreeing.specs.Agreeing.{same, agreeing, allAgree, Verdict, accepted, tooLong, listDiffers, verdict, Checking, verdictOf, Checks}
+use Rattle.agreeing.specs.Agreeing.{same, agreeing, allAgree, accepted, listDiffers, verdict, verdictOf, Checks}
 use Rattle.agreeing.specs.Steps.{beginning, ownRecord, Agrees, Steps, verdictAt, Finishes}
 
 -- five numbers that are the same, and the records that have them
@@ -74,6 +73,27 @@ pub agreeing-front : (p a b : List Record) → agreeing (p ++ a) (p ++ b) ≡ le
 unfolding agreeing
 agreeing-front [] a b = omega arith
 agreeing-front (r ∷ p) a b = rw (same-self r) (ap suc (agreeing-front p a b) ∙ omega arith)
+
+both-false : (a b : Bool) → (a ≡ true → b ≡ true → ⊥) → a && b ≡ false
+both-false true true f = absurd (f refl refl)
+both-false true false f = refl
+both-false false b f = refl
+
+-- the verdict where all of both lists agree, and where not
+module _ (rs own : List Record) (there : Answer) (i : ℕ) (a : agreeing rs own ≡ i) where
+  pub verdict-all : i ≡ length rs → i ≡ length own → verdict rs own there ≡ cond (not (isRefusal there)) accepted (listDiffers i)
+  verdict-all p q =
+      ap (λ (b : Bool). cond (b && eqb (agreeing rs own) (length own) && not (isRefusal there)) accepted (listDiffers (agreeing rs own)))
+      (eq-eqb (agreeing rs own) (length rs) (a ∙ p)) ∙
+      ap (λ (b : Bool). cond (b && not (isRefusal there)) accepted (listDiffers (agreeing rs own))) (eq-eqb (agreeing rs own) (length own) (a ∙ q)) ∙
+      ap (λ (j : ℕ). cond (not (isRefusal there)) accepted (listDiffers j)) a
+
+  pub verdict-not : (i ≡ length rs → i ≡ length own → ⊥) → verdict rs own there ≡ listDiffers i
+  verdict-not f =
+      let not-all : allAgree rs own ≡ false =
+      both-false (eqb (agreeing rs own) (length rs)) (eqb (agreeing rs own) (length own))
+      (λ p q. f (sym a ∙ eqb-true (agreeing rs own) (length rs) p) (sym a ∙ eqb-true (agreeing rs own) (length own) q)) in
+      ap (λ (b : Bool). cond (b && not (isRefusal there)) accepted (listDiffers (agreeing rs own))) not-all ∙ ap listDiffers a
 
 -- what a read behind the last record would give
 abbrev pub none : Record
@@ -172,7 +192,7 @@ module _ {s : Source} {rs : List Record} {i : ℕ} {p : Place} (v : Upto s rs i 
       agreeing-all (w .passed) (r ∷ drop (suc i) rs) (drop-cons rs i none h) ∙
       ap (λ (k : ℕ). i + k) (differs-here r (drop (suc i) rs) (subst (λ (b : Bool). Agrees b s p r q) g f) (w .passed) (w .to) (w .passes)) ∙
       omega arith in
-      inr (v .short, record { walk = all; answers = sym (rw (a, ne-eqb i (length rs) (λ z. omega arith))) })
+      inr (v .short, record { walk = all; answers = sym (verdict-not rs (own (all .passed)) (w .there) i a (λ p q. omega arith)) })
 
   -- behind the last record
   at-end : length rs ≤ i → (there : Answer) → Next s at there → (l : List Legal) (to : ℕ) (last : Answer) → Passes Always s [] at l to
@@ -185,7 +205,7 @@ module _ {s : Source} {rs : List Record} {i : ℕ} {p : Place} (v : Upto s rs i 
       let m : length (own (v .passed ++ [])) ≡ i = ap (λ (y : List Legal). length (own y)) (append-nil (v .passed)) ∙ sym (v .counts) in
       let same-there : last ≡ there =
       gives-unique (rules (s .profile)) (s .text) at last there (subst (λ (y : ℕ). Next s y last) (sym x) k) g in
-      rw (a, m, eq-eqb i (length rs) i-is, eq-eqb i i refl) (by-last last k stuck ∙ ap (verdictAt i) same-there)
+      verdict-all rs (own (v .passed ++ [])) last i a i-is (sym m) ∙ by-last last k stuck ∙ ap (verdictAt i) same-there
     where
       by-last : (last : Answer) → Next s to last → ((t : Legal) → last ≡ tokenOf t → ⊥)
           → cond (not (isRefusal last)) accepted (listDiffers i) ≡ verdictAt i last
@@ -196,8 +216,8 @@ module _ {s : Source} {rs : List Record} {i : ℕ} {p : Place} (v : Upto s rs i 
       let none-left : drop i rs ≡ [] = drop-of-length-le rs {i = i} h in
       let a : agreeing rs (own (v .passed ++ (t ∷ l))) ≡ i = agreeing-all (t ∷ l) [] none-left ∙ omega arith in
       let long = ap length (records-append (s .text) (v .passed) (t ∷ l)) ∙ length-append (own (v .passed)) (own (t ∷ l)) in
-      let more : eqb i (length (own (v .passed ++ (t ∷ l)))) ≡ false = ne-eqb i _ (λ y. omega (arith, v .counts)) in
-      rw (a, more, and-false) (ap (verdictAt i) (gives-unique (rules (s .profile)) (s .text) at (tokenOf t) there k g))
+      verdict-not rs (own (v .passed ++ (t ∷ l))) last i a (λ y z. omega (arith, v .counts)) ∙
+      ap (verdictAt i) (gives-unique (rules (s .profile)) (s .text) at (tokenOf t) there k g)
 
   pub ends : length rs ≤ i → (r : Checked) → Finishes s at i r → Checks s rs r
   unfolding Checks

@@ -2,8 +2,8 @@
 use Prim.Native.Nat.{ℕ, _+_, _-_}
 use native.Mathlib.Omega.{arith}
 use mathlib.Core.Path.{_≡_, refl, sym, _∙_, ap, subst}
-use mathlib.Core.Bool.{Bool, true, false, _&&_, true≢false}
-use mathlib.Core.List.{List, [], _∷_}
+use mathlib.Core.Bool.{Bool, true, false, true≢false}
+use mathlib.Core.List.{[], _∷_}
 use mathlib.Core.Logic.{⊎-elim}
 use types.Run.{OneOf}
 use denote.Enum.Declared.{tagOf}
@@ -24,13 +24,13 @@ use Rattle.records.specs.declared.Record.{Record}
 use Rattle.records.specs.Records.{recordOf}
 use Rattle.places.specs.declared.Line.{Line}
 use Rattle.places.specs.Lines.{lineOver}
-use Rattle.walks.specs.Walk.{Legal, tokenOf}
+use Rattle.walks.specs.Walk.{tokenOf}
 use Rattle.walks.proofs.WalkLaws.{legal, legalOf, is-legal, token-told, end-no-token, refusal-no-token}
 use Rattle.lists.specs.Lines.{recordOn}
 use Rattle.agreeing.specs.declared.Checked.the-variants.{Accepted, ListDiffers}
 use Rattle.agreeing.specs.declared.step.Place.{Place}
 use Rattle.agreeing.specs.Agreeing.{same}
-use Rattle.agreeing.specs.Steps.{ownRecord, Agrees, Steps, Finishes}
+use Rattle.agreeing.specs.Steps.{ownRecord, Steps, Finishes}
 use Rattle.agreeing.proofs.AgreeLaws.{same-is, same-self}
 
 abbrev pub place : Cursor → Line → Place

@@ -19,15 +19,15 @@ use Rattle.lexer.specs.declared.cursor.Cursor.{Cursor}
 use Rattle.lexer.specs.Eaten.{cursor}
 use Rattle.records.specs.declared.Record.{Record}
 use Rattle.records.specs.Records.{width, readBack, atFront}
-use Rattle.walks.specs.Walk.{Legal, tokenOf, Goes, Always, Passes, Walk}
+use Rattle.walks.specs.Walk.{Legal, tokenOf, Always, Passes, Walk}
 use Rattle.walks.proofs.WalkLaws.{legal, is-legal, end-no-token, passes-also, walk-one}
 use Rattle.lists.specs.declared.list.Listed.the-variants.{End}
-use Rattle.lists.specs.Lists.{recordsOf, HasRoom, listAnswer, Listing, longestText, Lists}
+use Rattle.lists.specs.Lists.{recordsOf, HasRoom, listAnswer, longestText, Lists}
 use Rattle.lists.proofs.KeptLaws.{records-many}
 use Rattle.lists.proofs.SliceLaws.{front-first}
 use Rattle.agreeing.specs.declared.Checked.{Checked}
 use Rattle.agreeing.specs.declared.Checked.the-variants.{Accepted, TooLong, ListDiffers}
-use Rattle.agreeing.specs.Agreeing.{same, agreeing, allAgree, Verdict, accepted, refused, tooLong, listDiffers, verdict, Checking, verdictOf, Checks, DiffersAt}
+use Rattle.agreeing.specs.Agreeing.{same, agreeing, allAgree, Verdict, accepted, refused, listDiffers, verdict, Checking, verdictOf, Checks, DiffersAt}
 use Rattle.agreeing.proofs.AgreeLaws.{same-is, same-self}
 
 -- An answer can be read back from its verdict.

@@ -1,14 +1,12 @@
 -- For private functions: one record beside the lexeme at a place, and the end of the list. Assumes nothing.
 use Prim.Native.Nat.{ℕ, _+_}
 use mathlib.Core.Path.{_≡_}
-use mathlib.Core.Bool.{Bool, true, false, cond, not}
-use mathlib.Core.List.{List}
+use mathlib.Core.Bool.{Bool, true, false}
 use lib.Seq.{slice}
 use Rattle.grammar.specs.Answers.{Answer, token, end, refusal}
 use Rattle.grammar.specs.Longest.{Source, Next}
 use Rattle.lexer.specs.Eaten.{cursor}
 use Rattle.records.specs.declared.Record.{Record}
-use Rattle.places.specs.declared.Line.{Line}
 use Rattle.places.specs.Lines.{lineOver}
 use Rattle.walks.specs.Walk.{Legal, tokenOf}
 use Rattle.lists.specs.Lines.{recordOn}

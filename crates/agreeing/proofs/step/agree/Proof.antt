@@ -1,16 +1,12 @@
-use mathlib.Core.Path.{_∙_, sym, ap, subst}
+-- `agreeing::step::agree` meets its contract. Assumes nothing.
+use mathlib.Core.Path.{_∙_, sym, subst}
 use borrow.Author.Needs.{needs}
-use Rattle.lexer.specs.Values.{LexesUnder}
 use Rattle.grammar.specs.Longest.{source}
+use Rattle.lexer.specs.Values.{LexesUnder}
 use Rattle.records.specs.Records.{recordOf}
+use Rattle.agreeing.proofs.StepLaws.{none-there, its-own, not-its-own}
 use Rattle.agreeing.proofs.step.agree.Statement.{statement}
 use Rattle.agreeing.proofs.step.agree.Tie as tie
-use Rattle.agreeing.proofs.step.agree.Reads as reads
-use Rattle.agreeing.proofs.step.agree.Lts as lts
-use Rattle.agreeing.proofs.step.is_record.Reads as is-record-reads
-use Rattle.agreeing.proofs.StepLaws.{none-there, its-own, not-its-own}
-use Rattle.lexer.proofs.next.next.Reads as next-reads
-use Rattle.places.proofs.line_behind.Reads as line-behind-reads
 
 next-requires : tie.Need-next-requires
 next-requires c κs = search needs

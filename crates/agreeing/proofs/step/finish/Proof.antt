@@ -1,13 +1,11 @@
+-- `agreeing::step::finish` meets its contract. Assumes nothing.
 use mathlib.Core.Path.{subst}
 use borrow.Author.Needs.{needs}
-use Rattle.lexer.specs.Values.{LexesUnder}
 use Rattle.grammar.specs.Longest.{source}
+use Rattle.lexer.specs.Values.{LexesUnder}
+use Rattle.agreeing.proofs.StepLaws.{finishes-end, finishes-early}
 use Rattle.agreeing.proofs.step.finish.Statement.{statement}
 use Rattle.agreeing.proofs.step.finish.Tie as tie
-use Rattle.agreeing.proofs.step.finish.Reads as reads
-use Rattle.agreeing.proofs.step.finish.Lts as lts
-use Rattle.agreeing.proofs.StepLaws.{finishes-end, finishes-early}
-use Rattle.lexer.proofs.next.next.Reads as next-reads
 
 next-requires : tie.Need-next-requires
 next-requires c κs = search needs

@@ -1,10 +1,8 @@
+-- `agreeing::step::is_record` meets its contract: each test tells of one number. Assumes nothing.
 use borrow.Author.Needs.{needs}
+use Rattle.agreeing.proofs.StepLaws.{kind-differs, start-differs, length-differs, line-differs, column-is-left}
 use Rattle.agreeing.proofs.step.is_record.Statement.{statement}
 use Rattle.agreeing.proofs.step.is_record.Tie as tie
-use Rattle.agreeing.proofs.step.is_record.Reads as reads
-use Rattle.agreeing.proofs.step.is_record.Lts as lts
-use Rattle.agreeing.proofs.step.column_on.Reads as column-on-reads
-use Rattle.agreeing.proofs.StepLaws.{kind-differs, start-differs, length-differs, line-differs, column-is-left}
 
 returns : tie.Need-returns
 returns c =
