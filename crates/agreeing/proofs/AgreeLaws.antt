@@ -74,6 +74,10 @@ unfolding agreeing
 agreeing-front [] a b = omega arith
 agreeing-front (r ∷ p) a b = rw (same-self r) (ap suc (agreeing-front p a b) ∙ omega arith)
 
+both-true : (a b : Bool) → a ≡ true → b ≡ true → a && b ≡ true
+both-true true b e f = f
+both-true false b e f = e
+
 both-false : (a b : Bool) → (a ≡ true → b ≡ true → ⊥) → a && b ≡ false
 both-false true true f = absurd (f refl refl)
 both-false true false f = refl
@@ -81,19 +85,27 @@ both-false false b f = refl
 
 -- the verdict where all of both lists agree, and where not
 module _ (rs own : List Record) (there : Answer) (i : ℕ) (a : agreeing rs own ≡ i) where
+  abbrev enough : Bool
+  enough = eqb (agreeing rs own) (length rs)
+
+  abbrev no-more : Bool
+  no-more = eqb (agreeing rs own) (length own)
+
+  by-all : (b : Bool) → allAgree rs own ≡ b → verdict rs own there ≡ cond (b && not (isRefusal there)) accepted (listDiffers i)
+  by-all b e =
+      ap (λ (c : Bool). cond (c && not (isRefusal there)) accepted (listDiffers (agreeing rs own))) e ∙
+      ap (λ (j : ℕ). cond (b && not (isRefusal there)) accepted (listDiffers j)) a
+
   pub verdict-all : i ≡ length rs → i ≡ length own → verdict rs own there ≡ cond (not (isRefusal there)) accepted (listDiffers i)
   verdict-all p q =
-      ap (λ (b : Bool). cond (b && eqb (agreeing rs own) (length own) && not (isRefusal there)) accepted (listDiffers (agreeing rs own)))
-      (eq-eqb (agreeing rs own) (length rs) (a ∙ p)) ∙
-      ap (λ (b : Bool). cond (b && not (isRefusal there)) accepted (listDiffers (agreeing rs own))) (eq-eqb (agreeing rs own) (length own) (a ∙ q)) ∙
-      ap (λ (j : ℕ). cond (not (isRefusal there)) accepted (listDiffers j)) a
+      by-all true
+      (both-true enough no-more (eq-eqb (agreeing rs own) (length rs) (a ∙ p)) (eq-eqb (agreeing rs own) (length own) (a ∙ q)))
 
   pub verdict-not : (i ≡ length rs → i ≡ length own → ⊥) → verdict rs own there ≡ listDiffers i
   verdict-not f =
-      let not-all : allAgree rs own ≡ false =
-      both-false (eqb (agreeing rs own) (length rs)) (eqb (agreeing rs own) (length own))
-      (λ p q. f (sym a ∙ eqb-true (agreeing rs own) (length rs) p) (sym a ∙ eqb-true (agreeing rs own) (length own) q)) in
-      ap (λ (b : Bool). cond (b && not (isRefusal there)) accepted (listDiffers (agreeing rs own))) not-all ∙ ap listDiffers a
+      by-all false
+      (both-false enough no-more
+      (λ p q. f (sym a ∙ eqb-true (agreeing rs own) (length rs) p) (sym a ∙ eqb-true (agreeing rs own) (length own) q)))
 
 -- what a read behind the last record would give
 abbrev pub none : Record
