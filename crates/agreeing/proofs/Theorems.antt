@@ -1,7 +1,7 @@
 -- For readers. `accepted-is-lists`: what is accepted is List's list, of a text without a refusal. `lists-is-accepted`: List's list is
--- accepted. `first-differs`: the index of a list that differs is that of the first record that differs, is surplus or is missing.
--- `long-is-refused`: a text that is too long is refused, whatever the records. `check-unique`: the contract of `check_list` leaves one answer.
--- Assumes nothing.
+-- accepted. `accepted-one`: no other is. `first-differs`: the index of a list that differs is that of the first record that differs, is
+-- surplus or is missing. `long-is-refused`: a text that is too long is refused, whatever the records. `check-unique`: the contract of
+-- `check_list` leaves one answer. Assumes nothing.
 use Prim.Native.Nat.{ℕ, suc, _+_, _*_, _≤_, _<_}
 use native.Mathlib.Omega.{arith}
 use mathlib.Core.Path.{_≡_, refl, sym, _∙_, ap, subst}
@@ -108,6 +108,14 @@ own-list s rs x =
       all-agree rs own (and-left (allAgree rs own) (not (isRefusal (w .there))) b),
       ends-so s (w .to) (w .there) (w .gives) (λ t e. w .stops t e tt) (and-right (allAgree rs own) (not (isRefusal (w .there))) b),
     )
+
+-- Of one text no more than one list is accepted: whatever else a record says is refused.
+pub accepted-one : (s : Source) (rs qs : List Record) → Checks s rs Accepted → Checks s qs Accepted → rs ≡ qs
+unfolding Checks
+accepted-one s rs qs (inl (h, e)) y = let z : _≡_ {A = ℕ} 0 1 = cc in absurd (omega arith)
+accepted-one s rs qs (inr (h, x)) (inl (k, e)) = absurd (omega arith)
+accepted-one s rs qs (inr (h, x)) (inr (k, y)) =
+    own-list s rs x .0 ∙ ap (recordsOf (s .text)) (walk-one Always s 0 (x .walk) (y .walk) .0) ∙ sym (own-list s qs y .0)
 
 -- with room for all lexemes every one has room
 room-all : (s : Source) (room : ℕ) (before : List Legal) (from : ℕ) (l : List Legal) (to : ℕ) → Passes Always s before from l to
