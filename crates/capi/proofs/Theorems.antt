@@ -1,8 +1,8 @@
--- For readers. `next-unique`, `list-unique`, `part-unique`, `count-unique`, `cut-unique`: two results that meet a call's contract, and two
--- lists, are equal. The contracts of `sqllex_stream_begin`, `sqllex_stream_offer` and `sqllex_stream_finish` are those of `packets`, and so
--- are their theorems: `begin-unique`, `offer-unique`, `finish-unique` (Theorems.antt there). Assumes nothing.
+-- For readers. `next-unique`, `list-unique`, `part-unique`, `count-unique`, `cut-unique`, `check-unique`: two results that meet a call's
+-- contract, and two lists, are equal. The contracts of `sqllex_stream_begin`, `sqllex_stream_offer` and `sqllex_stream_finish` are those of
+-- `packets`, and so are their theorems: `begin-unique`, `offer-unique`, `finish-unique` (Theorems.antt there). Assumes nothing.
 use Prim.Native.Nat.{ℕ}
-use mathlib.Core.Path.{_≡_, sym, _∙_, ap}
+use mathlib.Core.Path.{_≡_, sym, _∙_, ap, subst}
 use mathlib.Core.List.{List}
 use Rattle.grammar.specs.Longest.{source}
 use Rattle.lexer.proofs.Theorems.{unique}
@@ -12,12 +12,18 @@ use Rattle.lists.specs.Lists.{recordsIn}
 use Rattle.lists.specs.Parts.{spentIn}
 use Rattle.lists.proofs.Theorems as lists
 use Rattle.lists.proofs.PartTheorems as parts
+use Rattle.records.specs.declared.Record.{Record}
+use Rattle.agreeing.specs.declared.Checked.{Checked}
+use Rattle.agreeing.specs.Agreeing.{verdictOf}
+use Rattle.agreeing.proofs.Theorems as agreeing
 use Rattle.codes.specs.declared.answers.Numbers.{Numbers}
 use Rattle.codes.specs.Told.{ofNext, ofList, ofPart, ofCut, written}
 use Rattle.codes.specs.Profiles.{profileOf}
 use Rattle.codes.proofs.CodeLaws.{by-profile}
 use Rattle.packets.specs.Numbers.{seven}
-use Rattle.capi.specs.Calls.{Gave, GavePart, NextCall, ListCall, PartCall, CountCall, CutCall}
+use Rattle.verdicts.specs.Verdicts.{GaveVerdict}
+use Rattle.verdicts.proofs.Theorems.{given-unique}
+use Rattle.capi.specs.Calls.{Gave, GavePart, NextCall, ListCall, PartCall, CountCall, CutCall, CheckCall}
 
 -- equal answers give the same numbers
 same : (x y : Numbers) (m n : ℕ) (k l : List ℕ) → x ≡ y → Gave x m k → Gave y n l → (m ≡ n) × (k ≡ l)
@@ -65,4 +71,12 @@ pub cut-unique : (s : List ℕ) (at profile : ℕ) (lent : List ℕ) (m n : ℕ)
 cut-unique s at profile lent m n k l =
     by-profile (profileOf profile) _ _ _ _ _
     (λ p x y. same _ _ m n k l (ap ofCut (cuts.cut-unique (source p s) at (x .answer) (y .answer) (x .owed) (y .owed))) (x .gave) (y .gave))
+    (λ x y. (x .0 ∙ sym (y .0), x .1 ∙ sym (y .1)))
+
+pub check-unique : (s : List ℕ) (profile : ℕ) (records : List Record) (old m n k l : ℕ)
+    → CheckCall s profile records old m k → CheckCall s profile records old n l → (m ≡ n) × (k ≡ l)
+check-unique s profile records old m n k l =
+    by-profile (profileOf profile) _ _ _ _ _
+    (λ p x y. let e = agreeing.check-unique _ records (y .answer) (x .answer) (y .owed) (x .owed) in
+    given-unique (verdictOf (x .answer)) m n k l (x .gave) (subst (λ (a : Checked). GaveVerdict (verdictOf a) n l) e (y .gave)))
     (λ x y. (x .0 ∙ sym (y .0), x .1 ∙ sym (y .1)))

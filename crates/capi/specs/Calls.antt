@@ -12,10 +12,14 @@ use Rattle.lists.specs.declared.list.Listed.{Listed}
 use Rattle.lists.specs.declared.part.Part.{Part}
 use Rattle.lists.specs.Lists.{recordsIn, Lists}
 use Rattle.lists.specs.Parts.{spentIn, Parts}
+use Rattle.records.specs.declared.Record.{Record}
+use Rattle.agreeing.specs.declared.Checked.{Checked}
+use Rattle.agreeing.specs.Agreeing.{Checks, verdictOf}
 use Rattle.codes.specs.declared.answers.Numbers.{Numbers}
 use Rattle.codes.specs.Told.{ofNext, ofList, ofPart, ofCut, written}
 use Rattle.codes.specs.Profiles.{profileOf, unknownProfile, Under}
 use Rattle.packets.specs.Numbers.{seven}
+use Rattle.verdicts.specs.Verdicts.{GaveVerdict}
 
 -- the status and the six numbers written
 abbrev pub Gave : Numbers → ℕ → List ℕ → Type 0
@@ -76,3 +80,13 @@ pub record CutNumbers (s : Source) (at status : ℕ) (six : List ℕ) : Type 0 w
 abbrev pub CutCall : List ℕ → ℕ → ℕ → List ℕ → ℕ → List ℕ → Type 0
 CutCall s at profile lent status six =
     Under (profileOf profile) (λ p. CutNumbers (source p s) at status six) ((status ≡ unknownProfile) × (six ≡ lent))
+
+-- the check of a list, with the index before and after
+pub record CheckNumbers (s : Source) (records : List Record) (status index : ℕ) : Type 0 where
+  pub answer : Checked
+  pub owed : Checks s records answer
+  pub gave : GaveVerdict (verdictOf answer) status index
+
+abbrev pub CheckCall : List ℕ → ℕ → List Record → ℕ → ℕ → ℕ → Type 0
+CheckCall s profile records old status index =
+    Under (profileOf profile) (λ p. CheckNumbers (source p s) records status index) ((status ≡ unknownProfile) × (index ≡ old))

@@ -1,4 +1,5 @@
 // The library for C and Rust: numbers and slices in, numbers out. `include/sqllex.h` declares the calls and says what they take and give.
+use agreeing::check_list;
 use codes::answers::UNKNOWN_PROFILE;
 use codes::profiles::Chosen;
 use codes::profiles::profile_of;
@@ -15,6 +16,8 @@ use lists::part::list_part;
 use packets::calls::begin_numbers;
 use packets::calls::finish_numbers;
 use packets::calls::offer_numbers;
+use records::Record;
+use verdicts::choose;
 use words::lookup::is_quotable_keyword;
 use words::lookup::keyword_or_id_token;
 ghost use mathlib.Core.Path.{_≡_};
@@ -24,7 +27,7 @@ ghost use Rattle.strings.specs.Calls.{ReadsString, ReadsName, WritesString, Wri
 ghost use Rattle.blobs.specs.Calls.{ReadsBlob, WritesBlob};
 ghost use Rattle.packets.specs.Calls.{BeginCall, OfferCall, FinishCall};
 ghost use Rattle.values.specs.Calls.{ReadIntegerCall, ReadBytesCall, WriteCall};
-ghost use Rattle.capi.specs.Calls.{NextCall, ListCall, PartCall, CountCall, CutCall};
+ghost use Rattle.capi.specs.Calls.{NextCall, ListCall, PartCall, CountCall, CutCall, CheckCall};
 
 #[no_mangle]
 pub extern "C" fn sqllex_next(
@@ -106,6 +109,25 @@ pub extern "C" fn sqllex_cut(
         return UNKNOWN_PROFILE;
     };
     give(of_cut(cut(text, Cursor { at: offset }, profile)), answer)
+}
+
+// Whether a list made elsewhere is the one that List would write. The borrow checker covers no function that takes a slice of structs: this
+// one is proved by hand, and does no more than call others.
+#[no_mangle]
+pub extern "C" fn sqllex_check_list(
+    text: &[u8],
+    profile: u32,
+    records: &[Record],
+    index: &mut usize,
+) -> u32
+    ensures { λ r. ⌜ CheckCall (now (text .entry)) profile (now (records .entry)) (now (index .entry)) r (now (index .exit)) ⌝ }
+{
+    let chosen = choose(profile);
+    if !chosen.known {
+        return UNKNOWN_PROFILE;
+    }
+    let checked = check_list(text, chosen.profile, records);
+    verdicts::give(checked, index)
 }
 
 #[no_mangle]
