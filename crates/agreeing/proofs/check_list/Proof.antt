@@ -1,6 +1,15 @@
--- `agreeing::check_list` meets its contract: a walk of its MIR, by hand, with a loop over a slice of structs beside the text. In each turn the
--- records are looked into, the one at i is copied out, they are shut, and `agree` is called on the text, the profile, the place and the
--- record's numbers. All that the proof knows of the five callees is that each meets its contract. Assumes nothing.
+-- `agreeing::check_list` meets its contract: a walk of its MIR, by hand, since no plan of the borrow checker speaks of a slice of structs.
+-- All that it knows of `too_long`, `begin`, `agree`, `differs` and `finish` is that each meets its contract.
+--     P, R, C₀, S      the types `Profile`, `Record`, `Checked` and `Place`, and with a ′ their laws
+--     asks-F, said-F       what F is handed, and what it says of its result
+--     Text, Prof       what the text and the profile own.        Borrow, Named, Sized     what the records own, in its parts
+--     Lives        these, and that the lifetimes of text and records last
+--     Turn, At     where a turn begins: an index, and a place up to which all records before it agree; and what is had there
+--     exits, frees-all     the contract holds at the end; before that the locals are freed
+--     opens, starts, turns     the MIR from the first test and from the loop on; a turn, which leaves the loop (`leaves`) or looks at a record
+--                  (`looks-at`): the records are looked into, the one at the index is copied out, and they are shut before `agree` is called
+-- The text and the records are Copy: what they own is had once for a callee and once for the end. What a number, a profile or a place owns is
+-- had for nothing. In a context the locals come last first, _12 to _0, each with its right to be freed. Assumes nothing.
 use mathlib.Core.Path.{_≡_, refl, sym, subst}
 use Prim.Native.Nat.{ℕ, _+_, _-_, _*_, _≤_, _<_, _^_, zero-le}
 use native.Mathlib.Nat.{lt-of-le-of-lt}
@@ -25,9 +34,12 @@ use ghost.Atoms.{Atoms, sem}
 use contract.Lifetimes.{Lfts}
 use contract.Monad.{Fun, fact}
 use contract.Running.{givenOf, tables, tablesOf}
-use types.Kit.{Go, Given, Item, ‵, raw, _⊛_, ⋆, some, later, runs, anyQ, atRet, Sq, frees, prop, _$_, _∵_, !, qed, by, move, keep, drop, use0, use1, use2, split, join, rewrite, pick, fsplit, fjoin, suffices, frame, await, done}
+use types.Kit.{Go, Given, Item, ‵, raw, _⊛_, ⋆, some, later, runs, anyQ, atRet, Sq, frees, prop, _$_, _∵_, !, qed, by, move, keep, drop, use0, use1, use2, split}
+use types.Kit.{join, rewrite, pick, fsplit, fjoin, suffices, frame, await, done}
 use types.Part.{whole, sub, look-in}
-use types.Run.{Opd, look, look-raw, store, init, forget, stop, hop, fld, from, load, lit, of-opd, bin, un, and-then, no-more, assigns, assigns-last, land, first, skips, blocks, branches, stays, leaves-loop, returns, returns-within, enter, alloc1, alloc0, params1, pass1, pass0, free1, free0, exec, Below, again, loops}
+use types.Run.{Opd, look, look-raw, store, init, forget, stop, hop, fld, from, load, lit, of-opd, bin, un, and-then, no-more, assigns, assigns-last, land, first}
+use types.Run.{skips, blocks, branches, stays, leaves-loop, returns, returns-within, enter, alloc1, alloc0, params1, pass1, pass0, free1, free0, exec, Below, again}
+use types.Run.{loops}
 use types.Share.{arr-parts}
 use sound.WpLaws.{fmOf, WpFn-mono}
 use denote.RattleType.{owns}

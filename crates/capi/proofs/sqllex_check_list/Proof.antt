@@ -30,9 +30,11 @@ use ghost.Atoms.{Atoms, sem}
 use contract.Lifetimes.{Lfts, Shares}
 use contract.Monad.{Fun, fact}
 use contract.Running.{givenOf, tables, tablesOf}
-use types.Kit.{Given, Item, ‵, raw, _⊛_, ⋆, some, later, atRet, runs, Sq, frees, prop, _$_, _∵_, !, qed, by, move, keep, drop, use0, use1, use3, split, join, rewrite, pick, fsplit, fsplit3, fjoin, suffices, frame, await, show, done}
+use types.Kit.{Given, Item, ‵, raw, _⊛_, ⋆, some, later, atRet, runs, Sq, frees, prop, _$_, _∵_, !, qed, by, move, keep, drop, use0, use1, use3, split, join}
+use types.Kit.{rewrite, pick, fsplit, fsplit3, fjoin, suffices, frame, await, show, done}
 use types.Part.{whole, sub, look-in}
-use types.Run.{look, init, forget, stop, hop, fld, from, load, lit, addr, of-opd, un, and-then, no-more, assigns, land, first, skips, branches, returns, returns-within, enter, alloc1, alloc0, params1, pass1, pass0, free1, free0, exec}
+use types.Run.{look, init, forget, stop, hop, fld, from, load, lit, addr, of-opd, un, and-then, no-more, assigns, land, first, skips, branches, returns}
+use types.Run.{returns-within, enter, alloc1, alloc0, params1, pass1, pass0, free1, free0, exec}
 use sound.WpLaws.{FmC, fmOf, WpFn-mono}
 use denote.RattleType.{owns}
 use denote.Laws.{Is, shows}
@@ -50,7 +52,8 @@ use denote.Triple.Call.{calls-at}
 use denote.Triple.Entry.{Args, Vals, onEntry}
 use denote.Triple.Spec.{Meets, tripleOf}
 use denote.Triple.Table.{entered, cited}
-use denote.Triple.Walked.{says, Stays, stay-none, stay-none-slice, gave-ref, walkOf, Goes, goes-none, goes-none-slice, goes-gave-ref, Walks, ends-at, walked, walk-meets}
+use denote.Triple.Walked.{says, Stays, stay-none, stay-none-slice, gave-ref, walkOf, Goes, goes-none, goes-none-slice, goes-gave-ref, Walks, ends-at, walked}
+use denote.Triple.Walked.{walk-meets}
 use denote.Exit.{yes}
 use denote.Triple.Clauses.{Lasts, ensured, lasts}
 use Rattle.grammar.specs.declared.profile.Profile.{Profile}
