@@ -30,7 +30,7 @@ use ghost.Atoms.{Atoms, sem}
 use contract.Lifetimes.{Lfts, Shares}
 use contract.Monad.{Fun, fact}
 use contract.Running.{givenOf, tables, tablesOf}
-use types.Kit.{Given, Item, ‵, raw, _⊛_, ⋆, some, later, atRet, runs, Sq, frees, prop, _$_, _∵_, !, qed, by, move, keep, drop, use0, use1, use3, split, join}
+use types.Kit.{Given, Item, ‵, raw, _⊛_, ⋆, some, later, atRet, runs, Seq, Sq, frees, prop, _$_, _∵_, !, qed, by, move, keep, drop, use0, use1, use3, split, join}
 use types.Kit.{rewrite, pick, fsplit, fsplit3, fjoin, suffices, frame, await, show, done}
 use types.Part.{whole, sub, look-in}
 use types.Run.{look, init, forget, stop, hop, fld, from, load, lit, addr, of-opd, un, and-then, no-more, assigns, land, first, skips, branches, returns}
@@ -296,11 +296,12 @@ module _ {M : Type 1} (𝓤 : URA M) (H : Heap 𝓤) (A : Atoms 𝓤) (W : Given
           empty handed-place l₈ (empty tyBool l₇ (empty K′.mir l₆ (empty D′.mir l₅ (empty passed-place l₄ (empty record-slice l₃ (empty (tyInt w32) l₂
           (empty text-slice l₁ (empty (tyInt w32) l₀ []))))))))
 
-      ends : (r : ℕ) (u : Val) (k : ℕ) → Call r k → Sq W (over r u k all-empty) (frees En (prop (Post u)))
-      ends r u k e =
-          move ! (22 ∷ 23 ∷ []) $ free1 ! $ move ! (20 ∷ 21 ∷ []) $ free1 ! $ move ! (18 ∷ 19 ∷ []) $ free1 ! $ move ! (16 ∷ 17 ∷ []) $ free1 ! $
-          move ! (14 ∷ 15 ∷ []) $ free1 ! $ move ! (12 ∷ 13 ∷ []) $ free1 ! $ move ! (10 ∷ 11 ∷ []) $ free1 ! $ move ! (8 ∷ 9 ∷ []) $ free1 ! $
-          move ! (6 ∷ 7 ∷ []) $ free1 ! $ free0 ! $ by ! (exits r u k e)
+      -- A rule, with `!` first: status and index are those of the context before what is said of them is read.
+      ends : {Go : Type 0} → Go → {r : ℕ} {u : Val} {k : ℕ} → Call r k → Seq Go W (over r u k all-empty) (frees En (prop (Post u)))
+      ends t {r} {u} {k} e =
+          move t (22 ∷ 23 ∷ []) $ free1 t $ move t (20 ∷ 21 ∷ []) $ free1 t $ move t (18 ∷ 19 ∷ []) $ free1 t $ move t (16 ∷ 17 ∷ []) $ free1 t $
+          move t (14 ∷ 15 ∷ []) $ free1 t $ move t (12 ∷ 13 ∷ []) $ free1 t $ move t (10 ∷ 11 ∷ []) $ free1 t $ move t (8 ∷ 9 ∷ []) $ free1 t $
+          move t (6 ∷ 7 ∷ []) $ free1 t $ free0 t $ by t (exits r u k e)
 
       -- from `give` on. The answer is a, at the machine value w
       gives : (v₅ v₇ : Val) (a : Checked) (w : Val) → ((r k : ℕ) → Gave a r k → Call r k)
@@ -319,7 +320,7 @@ module _ {M : Type 1} (𝓤 : URA M) (H : Heap 𝓤) (A : Atoms 𝓤) (W : Given
           peeks ! u32 (Is u32) (shows 𝓤 H A u32) r (u ∷ []) (λ is.
           land ! (from ! (stop !)) (init ! 22 refl (uint-lawful 𝓤 H A W w32 .typed r _ is .0)) $ returns ! (look ! 22 refl) $
           forget ! 6 refl $ forget ! 8 refl $ forget ! 10 refl $ forget ! 12 refl $ forget ! 14 refl $ forget ! 16 refl $ forget ! 18 refl $
-          forget ! 20 refl $ forget ! 22 refl $ ends r u k (tells r k gave))))))
+          forget ! 20 refl $ forget ! 22 refl $ ends ! (tells r k gave))))))
 
       -- from `check_list` on, under the profile that the number has
       checks : (c : Choice) (v₇ : Val) → Is P.the-row (c .profile) (profileVal (c .profile) ∷ []) → Known (c .profile) ≡ profileOf number
@@ -353,7 +354,7 @@ module _ {M : Type 1} (𝓤 : URA M) (H : Heap 𝓤) (A : Atoms 𝓤) (W : Given
           owned ! u32 (Is u32) (uint-makes 𝓤 H A W w32) _ _ (refl, lit< tt) $
           -- [the status; the last index; the locals, all of them room; the tokens; the token; the text; the records]
           move ! (0 ∷ 21 ∷ 1 ∷ 20 ∷ 23 ∷ 22 ∷ []) $
-          ends _ _ (now index) (under-unknown (choice-unknown number c e (was-false (c .known) none)) _ _ (refl, refl)))
+          ends ! (under-unknown (choice-unknown number c e (was-false (c .known) none)) _ _ (refl, refl)))
           (λ found. skips ! $ exec ! C Λ En body.t-4 (atRet En Post) $ checks c _ is (choice-known number c e (was-true (c .known) found)))
 
       -- from `choose` on, which is all
