@@ -27,7 +27,7 @@ pub const OPEN: u32 = 102;
 
 pub const MORE: u32 = 103;
 
-// 104 is that of a literal that was read or written, in `values`.
+// 104 is that of a literal that was read or written, in `values`; 106 that of a list that is accepted, in `verdicts`.
 pub const PAUSED: u32 = 105;
 
 pub struct Numbers {
