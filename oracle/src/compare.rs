@@ -1,8 +1,9 @@
 //! The published lexer, or Next stated a second time, beside another program that answers the same records: texts by many rules, answers
-//! byte for byte. And the second statement beside the published lexer, and beside SQLite's tokenizer; and the cut beside SQLite's
-//! `sqlite3_complete`.
+//! byte for byte. And the second statement beside the published lexer, and beside SQLite's tokenizer; the cut beside SQLite's
+//! `sqlite3_complete`; and lists to be checked, for a program that is told what to answer.
 
 mod alphabets;
+mod checks;
 mod complete;
 mod corpus;
 mod cuts;
@@ -32,6 +33,7 @@ use crate::records;
 use crate::second::Profile;
 use crate::walk::Source;
 pub use alphabets::ALPHABETS;
+pub use checks::checks;
 pub use complete::complete;
 use corpus::Corpus;
 use families::{Family, Plan};

@@ -11,6 +11,8 @@ use std::io;
 /// How many numbers a record has: kind, start, length, line and column.
 pub const WIDTH: usize = 5;
 
+pub type Record = [u32; WIDTH];
+
 /// The numbers that the lexemes of the longest text can need: a record for each byte.
 pub const MOST: usize = WIDTH * (TOO_LONG - 1);
 
@@ -84,7 +86,7 @@ pub fn part(
 /// Kind, start and length.
 type Lexeme = (TokenType, usize, usize);
 
-fn record(newlines: &[usize], (kind, start, length): Lexeme) -> [u32; WIDTH] {
+fn record(newlines: &[usize], (kind, start, length): Lexeme) -> Record {
     let [line, column] = line_and_column(newlines, start);
     let [start, length, line, column] = [start, length, line, column].map(|number| number as u32);
     [kinds::number(kind), start, length, line, column]

@@ -3,6 +3,7 @@
 
 mod ahead;
 mod answers;
+mod check;
 mod compare;
 mod kinds;
 mod list;
@@ -56,6 +57,7 @@ fn main() -> io::Result<ExitCode> {
         ("answers", _) => answers::print(&mut out).map(|()| true)?,
         ("ahead", _) => ahead::ahead(&mut out)?,
         ("compare", _) => compare::compare(&mut out, &words[1..])?,
+        ("checks", _) => compare::checks(&mut out, &words[1..])?,
         ("second", _) => compare::second(&mut out, &words[1..])?,
         ("tokenizer", _) => compare::tokenizer(&mut out, &words[1..])?,
         ("complete", _) => compare::complete(&mut out, &words[1..])?,

@@ -16,7 +16,7 @@ use std::io::{self, Write};
 pub const USAGE: &str = "\
 modes: next [PROFILE], sums [PROFILE], list N [PROFILE] (N 0 to 327675), part N A [PROFILE] (A 0 to 4294967295), cut [PROFILE],
 stream [PROFILE], literal [PROFILE], word, write, replay (records in, answers out); answers; ahead; compare COUNT SEED FOLDER PROGRAM [ARG..];
-second COUNT SEED FOLDER; tokenizer COUNT SEED FOLDER PROGRAM [ARG..]; tokens PROGRAM [ARG..] (records in);
+checks COUNT SEED FOLDER (lists out); second COUNT SEED FOLDER; tokenizer COUNT SEED FOLDER PROGRAM [ARG..]; tokens PROGRAM [ARG..] (records in);
 complete COUNT SEED - PROGRAM [ARG..]. PROFILE is turso, also where none is named, or sqlite; FOLDER is - for none";
 
 #[derive(Clone, Copy)]
