@@ -1,30 +1,32 @@
 /*
  * sqllex.h: a SQL lexer for C and C++. examples/tokens.c calls sqllex_list_from, examples/slices.c lists a text a slice at a time,
- * examples/stream.c lexes a text in small parts, examples/settings.c reads the literals of such a text as they arrive, and
- * examples/tokens.rs calls sqllex_next from Rust.
+ * examples/checked.c checks a list that was made elsewhere, examples/stream.c lexes a text in small parts, examples/settings.c reads the
+ * literals of such a text as they arrive, and examples/tokens.rs calls sqllex_next from Rust.
  *
  * Declares the calls of target/staticlib/libcapi.a, which `rt staticlib capi` proves and builds from crates/capi. The archive is
  * code for x86-64 Linux, needs no other library, and follows that system's calling convention, SSE registers and the red zone
  * included. tests/header fails where this file and the code part ways.
  *
  * What every call does. It returns, whatever the bytes; a text may hold any bytes, zeros too, and needs no zero behind it. It reads
- * the text alone, and writes only the list's first numbers and the answer or the slice, as said below; a call of a stream reads the
- * stream, the row and the part alone, and writes only the stream, the row and what is given; one that reads or writes a literal reads
- * the text or the value alone, and writes only the buffer's first bytes and where the value or the count goes. It uses no heap, no
- * variable of its own outside the stack and no call of the system, so that any number of threads may call at once, on one text too,
- * each with its own list and answer or slice, its own stream, row and place for what is given, or its own buffer and place for a value
- * or a count.
+ * the text alone, and writes only the list's first numbers and the answer or the slice, as said below; one that checks a list reads the
+ * text and the records alone, and writes only the index; a call of a stream reads the stream, the row and the part alone, and writes only
+ * the stream, the row and what is given; one that reads or writes a literal reads the text or the value alone, and writes only the
+ * buffer's first bytes and where the value or the count goes. It uses no heap, no variable of its own outside the stack and no call of
+ * the system, so that any number of threads may call at once, on one text and on the same records too, each with its own list and answer
+ * or slice, its own index, its own stream, row and place for what is given, or its own buffer and place for a value or a count.
  *
  * What a caller owes. Nothing tests these: a call that breaks one has no meaning.
  * - A text, a part of one, a word, a value's bytes or a buffer is two arguments, where its first byte is and how many bytes there are;
- *   a list as well, where its length is the number of its uint32_t (not of bytes, not of records). So many must be there, in one
- *   object that lives until the call returns. With a length of 0 nothing is read or written there, and the pointer may be null.
+ *   a list as well, where its length is the number of its uint32_t (not of bytes, not of records), and so are records, where the count
+ *   is that of records. So many must be there, in one object that lives until the call returns. With a length or a count of 0 nothing is
+ *   read or written there, and the pointer may be null.
  * - A row has SQLLEX_ROW_LENGTH bytes.
- * - A list and a stream are aligned as uint32_t is, an answer, a slice, what is given and a count as size_t is, a value as int64_t is;
- *   an answer, a slice, a stream, a row, what is given, `value` of sqllex_read_integer and `bytes` are never null. None needs values
- *   beforehand, but that a stream is begun first.
- * - Text, list and answer or slice of one call do not overlap, nor do stream, row, part and what is given, nor do text or value,
- *   buffer, and where the value or the count goes; and nobody else writes to them while it runs: no thread, interrupt or DMA.
+ * - A list, records and a stream are aligned as uint32_t is, an answer, a slice, an index, what is given and a count as size_t is, a value
+ *   as int64_t is; an answer, a slice, `index`, a stream, a row, what is given, `value` of sqllex_read_integer and `bytes` are never null.
+ *   None needs values beforehand, but that a stream is begun first and that records are there to be checked, whatever they hold.
+ * - Text, list and answer or slice of one call do not overlap, nor do text, records and index, nor do stream, row, part and what is
+ *   given, nor do text or value, buffer, and where the value or the count goes; and nobody else writes to them while it runs: no thread,
+ *   interrupt or DMA.
  * - An offset may be any number, and so may an allowance, and a span's start and length. One past the end is refused and reads nothing.
  * - A profile may be any number. With one that is neither of the two below nothing is read or written.
  * - Stream and row are the caller's, who leaves both as they are between the calls of one text. A call that finds other numbers or
@@ -80,9 +82,10 @@ typedef struct sqllex_stream {
 } sqllex_stream;
 
 /*
- * A token of a list, which has these five numbers of each, in this order; sqllex_record_at reads them. Line and column say for people
- * where the token starts. Both are counted from 1 and from the text's beginning, also where the list starts later. A byte 0A ends a
- * line, and is itself the last of it; no other byte does. A column counts bytes, not characters.
+ * A token of a list, which has these five numbers of each, in this order; sqllex_record_at reads them, and sqllex_check_list takes an
+ * array of such records. Line and column say for people where the token starts. Both are counted from 1 and from the text's beginning,
+ * also where the list starts later. A byte 0A ends a line, and is itself the last of it; no other byte does. A column counts bytes, not
+ * characters.
  */
 typedef struct sqllex_record {
     uint32_t kind;
@@ -125,7 +128,8 @@ _Static_assert(sizeof(sqllex_record) == 20, "the library's records are five word
 
 /*
  * Statuses: 0, nothing is left; 1 to 99, a refusal, 99 that of a number that is no profile's, 98 that of six numbers that are no
- * stream's; 100 to 102, a find; 103, a stream wants more bytes; 104, a literal was read or written; 105, a list paused.
+ * stream's; 100 to 102, a find; 103, a stream wants more bytes; 104, a literal was read or written; 105, a list paused; 106, a list was
+ * accepted.
  */
 #define SQLLEX_END 0u
 #define SQLLEX_UNRECOGNIZED_TOKEN 1u
@@ -143,6 +147,7 @@ _Static_assert(sizeof(sqllex_record) == 20, "the library's records are five word
 #define SQLLEX_NO_ROOM 13u
 #define SQLLEX_LEXEME_TOO_LONG 14u
 #define SQLLEX_CLOSED 15u
+#define SQLLEX_LIST_DIFFERS 16u
 #define SQLLEX_UNKNOWN_STREAM 98u
 #define SQLLEX_UNKNOWN_PROFILE 99u
 #define SQLLEX_TOKEN 100u
@@ -151,8 +156,9 @@ _Static_assert(sizeof(sqllex_record) == 20, "the library's records are five word
 #define SQLLEX_MORE 103u
 #define SQLLEX_DONE 104u
 #define SQLLEX_PAUSED 105u
+#define SQLLEX_ACCEPTED 106u
 
-/* The longest text that list, list_from and list_part take, in bytes. next and cut take any. */
+/* The longest text that list, list_from, list_part and check_list take, in bytes. next and cut take any. */
 #define SQLLEX_LONGEST_TEXT 65535u
 
 /* How many numbers a record of a list has, those of sqllex_record. So many for each byte of the text are always enough. */
@@ -387,7 +393,8 @@ _Static_assert(sizeof(sqllex_record) == 20, "the library's records are five word
     X(OUT_OF_RANGE, OutOfRange) \
     X(NO_ROOM, NoRoom) \
     X(LEXEME_TOO_LONG, LexemeTooLong) \
-    X(CLOSED, Closed)
+    X(CLOSED, Closed) \
+    X(LIST_DIFFERS, ListDiffers)
 
 #ifdef __cplusplus
 extern "C" {
@@ -480,6 +487,31 @@ static inline sqllex_record sqllex_record_at(const uint32_t *list, size_t i)
     sqllex_record record = {numbers[0], numbers[1], numbers[2], numbers[3], numbers[4]};
     return record;
 }
+
+/*
+ * Whether a list that was made elsewhere, as on a phone that lexes before it sends, is a text's own: it is accepted exactly where it has
+ * the records that sqllex_list_from writes from offset 0 on under this profile, all of them, blanks and comments too, and no other, and no
+ * lexeme of the text is refused. An empty list is right for an empty text.
+ *
+ *     status                   *index
+ *     SQLLEX_ACCEPTED          0
+ *     SQLLEX_TOO_LONG          0
+ *     SQLLEX_LIST_DIFFERS      of the first record that differs, is surplus or is missing
+ *     SQLLEX_UNKNOWN_PROFILE   nothing is written
+ *
+ * Records may hold any numbers: each of the five is compared with the text's, and none is used for anything else, so that nothing has to
+ * be known of who made them.
+ *
+ * With SQLLEX_LIST_DIFFERS `*index` is how many records agree, from the first on. It is less than records_count where a record is not
+ * the text's, or stands where the text has ended or has a lexeme that is refused; it is records_count where all agree and the text has a
+ * lexeme more, be it legal or refused. sqllex_list_from says which refusal that is.
+ *
+ * SQLLEX_TOO_LONG, for a text of more than SQLLEX_LONGEST_TEXT bytes, comes before SQLLEX_LIST_DIFFERS.
+ *
+ * What sqllex_list_from wrote into a list is checked as (const sqllex_record *)list, with the number of records that it told.
+ */
+uint32_t sqllex_check_list(const uint8_t *text, size_t text_length, uint32_t profile, const sqllex_record *records,
+                           size_t records_count, size_t *index);
 
 /*
  * The statement from an offset on, up to and with the semicolon that ends it. Only a semicolon that is a token counts, none inside a

@@ -7,13 +7,14 @@
  * calls PLACE write                                the same, of records whose offset is a buffer's length
  * calls PLACE word                                 the same, of records that are words
  * calls PLACE replay                               prints what the program replay prints of them
+ * calls PLACE check                                reads lists with what the oracle says of them, and stops where one is checked otherwise
  * calls PLACE edges                                tries the calls that stand below with their answers
  *
- * PLACE, front or back, says where a text, list, answer, slice, stream, row, buffer, value or count lies in its room between two such
- * pages: at its beginning or at its end. In every mode what a call must leave alone is seen to be as it was: the bytes beside all that is
- * written, the list's numbers behind the records, the row's bytes behind those held, a value or a count that is not set, and the text or
- * part, which cannot be written. And the records of every list are seen to lie one behind the other, those of a slice with nothing but
- * blanks between them, each with the line and column that the text's bytes give.
+ * PLACE, front or back, says where a text, list, answer, slice, index, stream, row, buffer, value or count lies in its room between two
+ * such pages: at its beginning or at its end. In every mode what a call must leave alone is seen to be as it was: the bytes beside all that
+ * is written, the list's numbers behind the records, the row's bytes behind those held, an index, a value or a count that is not set, and
+ * the text, the part or the records that are checked, which cannot be written. And the records of every list are seen to lie one behind the
+ * other, those of a slice with nothing but blanks between them, each with the line and column that the text's bytes give.
  */
 #define _DEFAULT_SOURCE
 #include <stdio.h>
@@ -81,14 +82,21 @@ static uint32_t profile = SQLLEX_TURSO;
 static const uint8_t *text;
 static size_t text_length;
 
+/* Puts bytes into a room, where they cannot be written afterwards: it opens no more pages than they take. */
+static const void *put(struct room room, const void *bytes, size_t size)
+{
+    unsigned char *there = place(room, size), *page = there - (size_t)(there - room.bytes) % (size_t)sysconf(_SC_PAGESIZE);
+    size_t length = (size_t)(there - page) + size;
+    mprotect(page, length, PROT_READ | PROT_WRITE);
+    if (size > 0)
+        memcpy(there, bytes, size);
+    mprotect(page, length, PROT_READ);
+    return there;
+}
+
 static void set_text(const void *bytes, size_t length)
 {
-    unsigned char *there = place(text_room, length);
-    mprotect(text_room.bytes, text_room.size, PROT_READ | PROT_WRITE);
-    if (length > 0)
-        memcpy(there, bytes, length);
-    mprotect(text_room.bytes, text_room.size, PROT_READ);
-    text = there;
+    text = put(text_room, bytes, length);
     text_length = length;
 }
 
@@ -2434,6 +2442,537 @@ static void try_literals(void)
     try_rows();
 }
 
+/*
+ * Lists made elsewhere, to be checked. They are lent where nothing can be written, and the index is set before a call to what no call would
+ * write by chance: under no profile it must be so afterwards.
+ */
+#define MADE_MOST (SQLLEX_LONGEST_TEXT + 16u)
+static struct room records_room, index_room;
+static const sqllex_record *records;
+static size_t records_count;
+
+static void set_records(const sqllex_record *from, size_t count)
+{
+    records = put(records_room, from, count * sizeof *from);
+    records_count = count;
+}
+
+static uint32_t call_check(uint32_t number, size_t *index)
+{
+    size_t *there = lend(index_room, sizeof *there);
+    uint32_t status = sqllex_check_list(text, text_length, number, records, records_count, there);
+    *index = *there;
+    if (status != SQLLEX_UNKNOWN_PROFILE)
+        lend_again(there, sizeof *there);
+    look_at_lent(there, sizeof *there, "a byte beside the index was written, or the index under no profile");
+    return status;
+}
+
+static void expect_check(int line, uint32_t status, size_t index)
+{
+    size_t got_index;
+    uint32_t got = call_check(profile, &got_index);
+    if (got == status && got_index == index)
+        return;
+    fprintf(stderr, "calls: line %d: of %zu records the status is %u, the index %zu, not %u and %zu\n", line, records_count, (unsigned)got,
+            got_index, (unsigned)status, index);
+    exit(1);
+}
+
+/* The text's own list by sqllex_list_from, the status with which it ends, and a list that is made of it. */
+static sqllex_record own[SQLLEX_LONGEST_TEXT], made[MADE_MOST];
+static size_t own_count;
+static uint32_t own_status;
+
+static void own_list(void)
+{
+    own_status = call_list(0, text_length * RECORD_WIDTH, &list, &said);
+    own_count = said.value;
+    memcpy(own, list, own_count * sizeof *own);
+}
+
+/* The text's own list is accepted, or all its records agree up to a refused lexeme. */
+static void expect_own(int line)
+{
+    bool right = own_status == SQLLEX_END;
+    set_records(own, own_count);
+    expect_check(line, right ? SQLLEX_ACCEPTED : SQLLEX_LIST_DIFFERS, right ? 0 : own_count);
+}
+
+/* The first so many records of the text's own, and behind them its records from another on; how many that makes. */
+static size_t make_list(size_t first, size_t from)
+{
+    memcpy(made, own, first * sizeof *made);
+    memcpy(made + first, own + from, (own_count - from) * sizeof *made);
+    return first + own_count - from;
+}
+
+static void expect_parts(int line, size_t count, size_t index)
+{
+    set_records(made, count);
+    expect_check(line, SQLLEX_LIST_DIFFERS, index);
+}
+
+#define PARTS(count, index) expect_parts(__LINE__, count, index)
+
+static uint32_t *number_in(sqllex_record *record, size_t field)
+{
+    uint32_t *const numbers[RECORD_WIDTH] = {&record->kind, &record->start, &record->length, &record->line, &record->column};
+    return numbers[field];
+}
+
+/* One number is another: by one, by a bit that no narrower number has or with which a sum wraps, by all of them; 0, and all ones. */
+static void try_damaged_numbers(void)
+{
+    for (size_t i = 0; i < own_count; i++)
+        for (size_t field = 0; field < RECORD_WIDTH; field++) {
+            uint32_t right = *number_in(own + i, field);
+            const uint32_t wrong[] = {right + 1,     right - 1,       0,                  UINT32_MAX, right ^ 2,
+                                      right ^ 0x100, right ^ 0x10000, right ^ 0x80000000, ~right,     (uint32_t)text_length};
+            for (size_t n = 0; n < sizeof wrong / sizeof *wrong; n++)
+                if (wrong[n] != right) {
+                    size_t count = make_list(0, 0);
+                    *number_in(made + i, field) = wrong[n];
+                    PARTS(count, i);
+                }
+        }
+}
+
+/* Two numbers of a record that have the sum they had, by 32 bits at least; and a number of all records from one on. */
+static void try_damaged_sums(size_t i, uint32_t step)
+{
+    for (size_t field = 0; field < RECORD_WIDTH; field++)
+        for (size_t other = 0; other < RECORD_WIDTH; other++) {
+            size_t count = make_list(0, 0);
+            if (other != field) {
+                *number_in(made + i, field) += step;
+                *number_in(made + i, other) -= step;
+            }
+            for (size_t behind = i; other == field && behind < count; behind++)
+                *number_in(made + behind, field) += step;
+            PARTS(count, i);
+        }
+}
+
+/* A list that ends early, lacks some records or has one twice, or in which two have changed places. */
+static void try_damaged_order(size_t i)
+{
+    set_records(own, i);
+    expect_check(__LINE__, SQLLEX_LIST_DIFFERS, i);
+    PARTS(make_list(i + 1, i), i + 1);
+    PARTS(make_list(i, i + 1), i);
+    for (size_t other = i + 1; other < own_count; other++) {
+        PARTS(make_list(i, other), i);
+        size_t count = make_list(0, 0);
+        made[i] = own[other];
+        made[other] = own[i];
+        PARTS(count, i);
+    }
+}
+
+/* Records behind the last, one or two: such as might follow it, and others. */
+static void try_surplus(void)
+{
+    static const sqllex_record blank = {SQLLEX_TK_NONE, 0, 0, 1, 1};
+    const sqllex_record first = own_count > 0 ? own[0] : blank, last = own_count > 0 ? own[own_count - 1] : blank;
+    const uint32_t end = last.start + last.length, column = last.column + last.length;
+    const sqllex_record more[] = {{0, 0, 0, 0, 0},
+                                  {SQLLEX_TK_NONE, end, 0, last.line, column},
+                                  {SQLLEX_TK_NONE, end, 1, last.line, column},
+                                  {SQLLEX_TK_ILLEGAL, end, (uint32_t)text_length - end, last.line, column},
+                                  {UINT32_MAX, UINT32_MAX, UINT32_MAX, UINT32_MAX, UINT32_MAX},
+                                  first,
+                                  last};
+    for (size_t n = 0; n < sizeof more / sizeof *more; n++) {
+        size_t count = make_list(0, 0);
+        made[count] = made[count + 1] = more[n];
+        PARTS(count + 1, own_count);
+        PARTS(count + 2, own_count);
+    }
+}
+
+static void try_damaged(void)
+{
+    static const uint32_t steps[] = {1, 0x10000, 0x80000000, UINT32_MAX};
+    own_list();
+    expect_own(__LINE__);
+    try_damaged_numbers();
+    for (size_t i = 0; i < own_count; i++) {
+        try_damaged_order(i);
+        for (size_t n = 0; n < sizeof steps / sizeof *steps; n++)
+            try_damaged_sums(i, steps[n]);
+    }
+    try_surplus();
+}
+
+/* Texts of all sorts of lexemes and with lines in them, such as both profiles take and one alone, and some for each refusal. */
+static void try_damaged_texts(void)
+{
+    static const char *const texts[] = {
+        "",
+        "a",
+        "\n",
+        "a;b",
+        "SELECT 1.e-1;\n",
+        "'x\ny''\n' a \"b\n\"`\n`/*\n*/--c\n\r\n d",
+        "x'0A' 0x1F .5 ?1 $a(b) @c #d \xc3\xa9 != <> ->> || types type",
+        "\n-- a\r\nSELECT 'b\n''\nc', \"d\ne\"/* f\n\n */ ,\n`g\n`;[h\ni]\r\n1.5 x'0A'\n\n$a(b) @c\n\n!=\xc3\xa9\n ",
+        "[a\n] :2 && b",
+        "a @> b",
+        "c 1e_5",
+        "\n;\n;[b",
+        "{",
+        "a {b c",
+        "\n'a' \n'''",
+        "1 12_x",
+        "1 1.5a",
+        "a,1e+",
+        "a;0x",
+        "a\n !",
+    };
+    for (size_t n = 0; n < sizeof texts / sizeof *texts; n++) {
+        set_text(texts[n], strlen(texts[n]));
+        try_damaged();
+    }
+}
+
+/* The text is checked against these records, each of kind, start, length, line and column. */
+#define CHECK(status, index, ...) \
+    (set_records((const sqllex_record[]){__VA_ARGS__}, sizeof((const sqllex_record[]){__VA_ARGS__}) / sizeof(sqllex_record)), \
+     expect_check(__LINE__, status, index))
+#define CHECK_NONE(status, index) (set_records(NULL, 0), expect_check(__LINE__, status, index))
+
+static void try_check(void)
+{
+    TEXT("");
+    CHECK_NONE(SQLLEX_ACCEPTED, 0);
+    CHECK(SQLLEX_LIST_DIFFERS, 0, {SQLLEX_TK_NONE, 0, 0, 1, 1});
+    TEXT("a;b");
+    CHECK(SQLLEX_ACCEPTED, 0, {SQLLEX_TK_ID, 0, 1, 1, 1}, {SQLLEX_TK_SEMI, 1, 1, 1, 2}, {SQLLEX_TK_ID, 2, 1, 1, 3});
+    CHECK(SQLLEX_LIST_DIFFERS, 2, {SQLLEX_TK_ID, 0, 1, 1, 1}, {SQLLEX_TK_SEMI, 1, 1, 1, 2}, {SQLLEX_TK_ID, 2, 1, 2, 3});
+    CHECK(SQLLEX_LIST_DIFFERS, 2, {SQLLEX_TK_ID, 0, 1, 1, 1}, {SQLLEX_TK_SEMI, 1, 1, 1, 2});
+    CHECK(SQLLEX_LIST_DIFFERS, 3, {SQLLEX_TK_ID, 0, 1, 1, 1}, {SQLLEX_TK_SEMI, 1, 1, 1, 2}, {SQLLEX_TK_ID, 2, 1, 1, 3},
+          {SQLLEX_TK_NONE, 3, 1, 1, 4});
+    CHECK(SQLLEX_LIST_DIFFERS, 1, {SQLLEX_TK_ID, 0, 1, 1, 1}, {SQLLEX_TK_ID, 2, 1, 1, 3});
+    CHECK_NONE(SQLLEX_LIST_DIFFERS, 0);
+    TEXT("a b"); /* blanks have a record too */
+    CHECK(SQLLEX_ACCEPTED, 0, {SQLLEX_TK_ID, 0, 1, 1, 1}, {SQLLEX_TK_NONE, 1, 1, 1, 2}, {SQLLEX_TK_ID, 2, 1, 1, 3});
+    CHECK(SQLLEX_LIST_DIFFERS, 1, {SQLLEX_TK_ID, 0, 1, 1, 1}, {SQLLEX_TK_ID, 2, 1, 1, 3});
+    TEXT("'\n'a"); /* a line that ends inside a token */
+    CHECK(SQLLEX_ACCEPTED, 0, {SQLLEX_TK_STRING, 0, 3, 1, 1}, {SQLLEX_TK_ID, 3, 1, 2, 2});
+    CHECK(SQLLEX_LIST_DIFFERS, 1, {SQLLEX_TK_STRING, 0, 3, 1, 1}, {SQLLEX_TK_ID, 3, 1, 1, 4});
+    CHECK(SQLLEX_LIST_DIFFERS, 1, {SQLLEX_TK_STRING, 0, 3, 1, 1}, {SQLLEX_TK_ID, 3, 1, 2, 1});
+    /* up to a refused lexeme all agree */
+    TEXT("a;!");
+    CHECK(SQLLEX_LIST_DIFFERS, 2, {SQLLEX_TK_ID, 0, 1, 1, 1}, {SQLLEX_TK_SEMI, 1, 1, 1, 2});
+    CHECK(SQLLEX_LIST_DIFFERS, 2, {SQLLEX_TK_ID, 0, 1, 1, 1}, {SQLLEX_TK_SEMI, 1, 1, 1, 2}, {SQLLEX_TK_NE, 2, 1, 1, 3});
+    CHECK(SQLLEX_LIST_DIFFERS, 1, {SQLLEX_TK_ID, 0, 1, 1, 1});
+    TEXT("{");
+    CHECK_NONE(SQLLEX_LIST_DIFFERS, 0);
+    CHECK(SQLLEX_LIST_DIFFERS, 0, {SQLLEX_TK_ILLEGAL, 0, 1, 1, 1});
+}
+
+/* No records and no text, by null pointers. */
+static void try_null_check(void)
+{
+    records = NULL;
+    records_count = 0;
+    TEXT("{");
+    expect_check(__LINE__, SQLLEX_LIST_DIFFERS, 0);
+    TEXT("\n");
+    expect_check(__LINE__, SQLLEX_LIST_DIFFERS, 0);
+    TEXT("");
+    expect_check(__LINE__, SQLLEX_ACCEPTED, 0);
+    text = NULL;
+    text_length = 0;
+    expect_check(__LINE__, SQLLEX_ACCEPTED, 0);
+    CHECK(SQLLEX_LIST_DIFFERS, 0, {SQLLEX_TK_SEMI, 0, 1, 1, 1});
+}
+
+/* The list of one text, checked against another. */
+static void expect_other(int line, const char *listed, const char *checked, uint32_t status, size_t index)
+{
+    set_text(listed, strlen(listed));
+    own_list();
+    set_records(own, own_count);
+    set_text(checked, strlen(checked));
+    expect_check(line, status, index);
+}
+
+#define OTHER(...) expect_other(__LINE__, __VA_ARGS__)
+
+static void try_other_texts(void)
+{
+    OTHER("a;b", "c+d", SQLLEX_LIST_DIFFERS, 1);
+    OTHER("a;b", "c;d", SQLLEX_ACCEPTED, 0); /* no record says which name it is */
+    OTHER("SELECT 1;", "SELECT 12;", SQLLEX_LIST_DIFFERS, 2);
+    OTHER("SELECT 1;", "SELECT 1.", SQLLEX_LIST_DIFFERS, 2);
+    OTHER("SELECT 1;", "selects 1;", SQLLEX_LIST_DIFFERS, 0);
+    OTHER("a b c", "a\nb c", SQLLEX_LIST_DIFFERS, 2);
+    OTHER("a\nb c", "a b c", SQLLEX_LIST_DIFFERS, 2);
+    OTHER("a\nb\n c", "a\nb  c", SQLLEX_LIST_DIFFERS, 4);
+    OTHER("'\n' a", "' ' a", SQLLEX_LIST_DIFFERS, 1);
+    OTHER("a;b", "a;b;", SQLLEX_LIST_DIFFERS, 3);
+    OTHER("a;b;", "a;b", SQLLEX_LIST_DIFFERS, 3);
+    OTHER("", "a", SQLLEX_LIST_DIFFERS, 0);
+    OTHER("a", "", SQLLEX_LIST_DIFFERS, 0);
+    OTHER("a;1", "a;1_", SQLLEX_LIST_DIFFERS, 2);
+    OTHER("a;1_", "a;", SQLLEX_ACCEPTED, 0); /* a list has what comes before a refusal */
+    OTHER("a {", "a }", SQLLEX_LIST_DIFFERS, 2);
+}
+
+/* The list that the other profile gives of the text. */
+static void expect_other_profile(int line, const char *both, uint32_t status, size_t index)
+{
+    set_text(both, strlen(both));
+    profile = profile == SQLLEX_TURSO ? SQLLEX_SQLITE : SQLLEX_TURSO;
+    own_list();
+    profile = profile == SQLLEX_TURSO ? SQLLEX_SQLITE : SQLLEX_TURSO;
+    set_records(own, own_count);
+    expect_check(line, status, index);
+}
+
+#define OTHER_PROFILE(...) expect_other_profile(__LINE__, __VA_ARGS__)
+
+static void try_other_profile(void)
+{
+    OTHER_PROFILE("", SQLLEX_ACCEPTED, 0);
+    OTHER_PROFILE("SELECT 1;", SQLLEX_ACCEPTED, 0);
+    OTHER_PROFILE("[a]", SQLLEX_LIST_DIFFERS, 0);
+    OTHER_PROFILE("a;[b]", SQLLEX_LIST_DIFFERS, 2);
+    OTHER_PROFILE("\n[\n]", SQLLEX_LIST_DIFFERS, 1);
+    OTHER_PROFILE("a :2", SQLLEX_LIST_DIFFERS, 2);
+    OTHER_PROFILE("a &&b", SQLLEX_LIST_DIFFERS, 2);
+    OTHER_PROFILE("x @>", SQLLEX_LIST_DIFFERS, 2);
+    OTHER_PROFILE("1e_5", SQLLEX_LIST_DIFFERS, 0);
+    OTHER_PROFILE("a[b", SQLLEX_LIST_DIFFERS, 1);
+}
+
+/* Texts as long as a list takes, of as many records as bytes, and a byte longer. */
+static void try_long_checks(void)
+{
+    static unsigned char bytes[SQLLEX_LONGEST_TEXT + 1];
+    const sqllex_record next = {SQLLEX_TK_SEMI, 65535, 1, 1, 65536};
+    memset(bytes, ';', sizeof bytes);
+    set_text(bytes, SQLLEX_LONGEST_TEXT);
+    own_list();
+    require(own_count == SQLLEX_LONGEST_TEXT, "another number of records than of semicolons");
+    expect_own(__LINE__);
+    set_records(own, 65534);
+    expect_check(__LINE__, SQLLEX_LIST_DIFFERS, 65534);
+    make_list(0, 0);
+    made[65535] = next;
+    PARTS(65536, 65535);
+    made[65534].column += 65536;
+    PARTS(65535, 65534);
+    made[32768].start -= 65536;
+    PARTS(65535, 32768);
+    CHECK_NONE(SQLLEX_LIST_DIFFERS, 0);
+    /* too long, whatever the list, and where something is refused as well */
+    set_text(bytes, sizeof bytes);
+    make_list(0, 0);
+    made[65535] = next;
+    set_records(made, 65536);
+    expect_check(__LINE__, SQLLEX_TOO_LONG, 0);
+    CHECK(SQLLEX_TOO_LONG, 0, {SQLLEX_TK_SEMI, 0, 1, 1, 1});
+    CHECK(SQLLEX_TOO_LONG, 0, {0, 0, 0, 0, 0});
+    CHECK_NONE(SQLLEX_TOO_LONG, 0);
+    bytes[0] = '{';
+    set_text(bytes, sizeof bytes);
+    CHECK_NONE(SQLLEX_TOO_LONG, 0);
+    set_text(bytes, SQLLEX_LONGEST_TEXT);
+    CHECK_NONE(SQLLEX_LIST_DIFFERS, 0);
+}
+
+/* As many lines as bytes, and as many as every other token. */
+static void try_long_lines_checked(void)
+{
+    static unsigned char bytes[SQLLEX_LONGEST_TEXT];
+    memset(bytes, '\n', sizeof bytes);
+    set_text(bytes, sizeof bytes);
+    CHECK(SQLLEX_ACCEPTED, 0, {SQLLEX_TK_NONE, 0, 65535, 1, 1});
+    CHECK(SQLLEX_LIST_DIFFERS, 0, {SQLLEX_TK_NONE, 0, 65534, 1, 1}, {SQLLEX_TK_NONE, 65534, 1, 65535, 1});
+    bytes[65534] = ';';
+    set_text(bytes, sizeof bytes);
+    CHECK(SQLLEX_ACCEPTED, 0, {SQLLEX_TK_NONE, 0, 65534, 1, 1}, {SQLLEX_TK_SEMI, 65534, 1, 65535, 1});
+    CHECK(SQLLEX_LIST_DIFFERS, 1, {SQLLEX_TK_NONE, 0, 65534, 1, 1}, {SQLLEX_TK_SEMI, 65534, 1, 65535 + 65536, 1});
+    CHECK(SQLLEX_LIST_DIFFERS, 1, {SQLLEX_TK_NONE, 0, 65534, 1, 1}, {SQLLEX_TK_SEMI, 65534, 1, 1, 65535});
+    for (size_t i = 0; i < sizeof bytes; i++)
+        bytes[i] = i % 2 == 0 ? '\n' : ';';
+    set_text(bytes, sizeof bytes);
+    own_list();
+    expect_own(__LINE__);
+    make_list(0, 0);
+    made[65533].line++;
+    PARTS(65535, 65533);
+    made[40000].column = 1;
+    PARTS(65535, 40000);
+}
+
+/* How many records of the list that is made agree with the text's own, from the first on. */
+static size_t agreeing(size_t count)
+{
+    size_t i = 0;
+    while (i < count && i < own_count && memcmp(made + i, own + i, sizeof *made) == 0)
+        i++;
+    return i;
+}
+
+/* A number of one record is made another. */
+static void draw_wrong(sqllex_record *record)
+{
+    uint32_t *number = number_in(record, draw(RECORD_WIDTH));
+    switch (draw(4)) {
+    case 0:
+        *number = draw_number();
+        break;
+    case 1:
+        *number ^= (uint32_t)1 << draw(32);
+        break;
+    default:
+        *number += 1 - 2 * draw(2);
+    }
+}
+
+/* The list that is made ends early, lacks a record, has one more, or a number of one is another; how many it has then. */
+static size_t draw_damage(size_t count)
+{
+    size_t i = draw((uint32_t)count + 1);
+    uint32_t way = draw(6);
+    if (way == 0)
+        return i;
+    if (way == 1) {
+        memmove(made + i + 1, made + i, (count - i) * sizeof *made);
+        if (i == count || draw(2) == 0)
+            made[i] = (sqllex_record){draw(SQLLEX_KINDS_COUNT), draw(90), draw(9), draw(9), draw(90)};
+        return count + 1;
+    }
+    if (i == count)
+        return count;
+    if (way > 2) {
+        draw_wrong(made + i);
+        return count;
+    }
+    memmove(made + i, made + i + 1, (count - i - 1) * sizeof *made);
+    return count - 1;
+}
+
+/* Texts that are drawn, with many lines: each with its own list, and with that list damaged up to three times. */
+static void try_drawn_checks(void)
+{
+    static uint8_t bytes[3000];
+    for (int round = 0; round < 20000; round++) {
+        size_t length = draw(40) == 0 ? draw(sizeof bytes) : draw(60);
+        draw_bytes(bytes, length);
+        for (size_t i = draw(20); i < length; i += 1 + draw(20))
+            bytes[i] = '\n';
+        set_text(bytes, length);
+        own_list();
+        expect_own(__LINE__);
+        size_t count = make_list(0, 0);
+        for (int damages = 0; damages < 3; damages++) {
+            count = draw_damage(count);
+            set_records(made, count);
+            size_t index = agreeing(count);
+            bool right = index == count && index == own_count && own_status == SQLLEX_END;
+            expect_check(__LINE__, right ? SQLLEX_ACCEPTED : SQLLEX_LIST_DIFFERS, right ? 0 : index);
+        }
+    }
+}
+
+static void try_checks(void)
+{
+    try_check();
+    try_null_check();
+    try_other_texts();
+    try_other_profile();
+    try_damaged_texts();
+    try_long_checks();
+    try_long_lines_checked();
+    try_drawn_checks();
+}
+
+/* Under no profile neither text nor records are read, and nothing is written. */
+static void try_unchecked(void)
+{
+    static unsigned char bytes[SQLLEX_LONGEST_TEXT + 1];
+    static const uint32_t numbers[] = {2, 3, 16, 99, 106, 0x80000000, 0xffffffff};
+    static const size_t lengths[] = {0, 9, SQLLEX_LONGEST_TEXT, SQLLEX_LONGEST_TEXT + 1};
+    size_t index;
+    memset(bytes, ';', sizeof bytes);
+    set_text(bytes, 9);
+    own_list();
+    for (size_t n = 0; n < sizeof lengths / sizeof *lengths; n++)
+        for (size_t count = 0; count <= own_count; count++) {
+            set_text(bytes, lengths[n]);
+            set_records(own, count);
+            mprotect(text_room.bytes, text_room.size, PROT_NONE);
+            mprotect(records_room.bytes, records_room.size, PROT_NONE);
+            for (size_t i = 0; i < sizeof numbers / sizeof *numbers; i++)
+                require(call_check(numbers[i], &index) == SQLLEX_UNKNOWN_PROFILE, "a list under no profile");
+        }
+}
+
+/*
+ * Lists with their answers, as `oracle checks` writes them: profile, status, index, the text's length and the number of records, 4 bytes
+ * each, lowest first; the text; the records, five such numbers each. How many had each status is printed at the end.
+ */
+enum { CHECK_PROFILE, CHECK_STATUS, CHECK_INDEX, CHECK_LENGTH, CHECK_COUNT, CHECK_NUMBERS };
+
+static bool has_read(void *bytes, size_t size)
+{
+    return fread(bytes, 1, size, stdin) == size;
+}
+
+static void tell_check(const uint32_t *numbers, uint32_t got, size_t got_index)
+{
+    fprintf(stderr, "calls: under %lu the status is %lu, the index %zu, not %lu and %lu; the text, and the records:\n",
+            (unsigned long)numbers[CHECK_PROFILE], (unsigned long)got, got_index, (unsigned long)numbers[CHECK_STATUS],
+            (unsigned long)numbers[CHECK_INDEX]);
+    for (size_t i = 0; i < text_length; i++)
+        fprintf(stderr, "%02x", text[i]);
+    for (size_t i = 0; i < records_count; i++)
+        fprintf(stderr, "\n%lu %lu %lu %lu %lu", (unsigned long)records[i].kind, (unsigned long)records[i].start,
+                (unsigned long)records[i].length, (unsigned long)records[i].line, (unsigned long)records[i].column);
+    fprintf(stderr, "\n");
+    fail("a list is checked otherwise");
+}
+
+/* Both lie in rooms that stay open, since to close them takes longer than a call: it is looked whether they are as they were. */
+static uint32_t check_open(const unsigned char *bytes, const uint32_t *numbers, size_t *index)
+{
+    size_t size = numbers[CHECK_COUNT] * sizeof *made;
+    text_length = numbers[CHECK_LENGTH];
+    text = memcpy(place(text_room, text_length), bytes, text_length);
+    records_count = numbers[CHECK_COUNT];
+    records = memcpy(place(records_room, size), made, size);
+    uint32_t status = call_check(numbers[CHECK_PROFILE], index);
+    require(memcmp(text, bytes, text_length) == 0 && memcmp(records, made, size) == 0, "a text or a record was written");
+    return status;
+}
+
+/* The library is code for x86-64, where a number lies lowest byte first in memory too. */
+static void compare_checks(void)
+{
+    static unsigned char bytes[TEXT_MOST];
+    static unsigned long compared[SQLLEX_ACCEPTED + 1];
+    uint32_t numbers[CHECK_NUMBERS];
+    size_t size, index;
+    while ((size = fread(numbers, 1, sizeof numbers, stdin)) == sizeof numbers) {
+        require(numbers[CHECK_STATUS] <= SQLLEX_ACCEPTED && numbers[CHECK_LENGTH] <= sizeof bytes && numbers[CHECK_COUNT] <= MADE_MOST,
+                "a bad list");
+        require(has_read(bytes, numbers[CHECK_LENGTH]) && has_read(made, numbers[CHECK_COUNT] * sizeof *made), "a list that is cut off");
+        uint32_t got = check_open(bytes, numbers, &index);
+        if (got != numbers[CHECK_STATUS] || (got != SQLLEX_UNKNOWN_PROFILE && index != numbers[CHECK_INDEX]))
+            tell_check(numbers, got, index);
+        compared[got]++;
+    }
+    require(size == 0 && !ferror(stdin), "a list that is cut off");
+    for (size_t status = 0; status <= SQLLEX_ACCEPTED; status++)
+        if (compared[status] > 0)
+            printf("%zu\t%lu\n", status, compared[status]);
+}
+
 static void try_streams(void)
 {
     try_stream();
@@ -2466,6 +3005,7 @@ static void try_both(void)
     try_null();
     try_streams();
     try_literals();
+    try_checks();
 }
 
 static void try_edges(void)
@@ -2479,33 +3019,36 @@ static void try_edges(void)
     try_no_profile();
     try_no_stream();
     try_unread();
+    try_unchecked();
     try_words();
 }
 
 static const char usage[] =
-    "calls front|back next|sums|list N|part N A|cut|stream|literal [turso|sqlite], or calls front|back word|write|replay|edges";
+    "calls front|back next|sums|list N|part N A|cut|stream|literal [turso|sqlite], or calls front|back word|write|replay|check|edges";
 
-/* The second argument, and which behind it: a list's length N, an allowance A, a profile. */
+/* The second argument, and which behind it: a list's length N, an allowance A, a profile. It prints each record, or runs by itself. */
 struct mode {
     const char *name;
     bool has_length, has_allowance, has_profile;
     void (*print)(size_t offset);
+    void (*run)(void);
 };
 
 static const struct mode *mode_named(const char *name)
 {
     static const struct mode modes[] = {
-        {"next", false, false, true, print_next},
-        {"sums", false, false, true, print_sums},
-        {"list", true, false, true, print_one_list},
-        {"part", true, true, true, print_slice},
-        {"cut", false, false, true, print_cut},
-        {"stream", false, false, true, print_stream},
-        {"literal", false, false, true, print_literal},
-        {"write", false, false, false, print_write},
-        {"word", false, false, false, print_word},
-        {"replay", false, false, false, print_replay},
-        {"edges", false, false, false, NULL}, /* reads no records */
+        {"next", false, false, true, print_next, NULL},
+        {"sums", false, false, true, print_sums, NULL},
+        {"list", true, false, true, print_one_list, NULL},
+        {"part", true, true, true, print_slice, NULL},
+        {"cut", false, false, true, print_cut, NULL},
+        {"stream", false, false, true, print_stream, NULL},
+        {"literal", false, false, true, print_literal, NULL},
+        {"write", false, false, false, print_write, NULL},
+        {"word", false, false, false, print_word, NULL},
+        {"replay", false, false, false, print_replay, NULL},
+        {"check", false, false, false, NULL, compare_checks},
+        {"edges", false, false, false, NULL, try_edges},
     };
     for (size_t i = 0; i < sizeof modes / sizeof *modes; i++)
         if (strcmp(modes[i].name, name) == 0)
@@ -2565,9 +3108,11 @@ int main(int argc, char **argv)
     value_room = make_room(sizeof(int64_t));
     count_room = make_room(sizeof(size_t));
     buffer_room = make_room(BUFFER_MOST + BESIDE);
+    records_room = make_room(MADE_MOST * sizeof(sqllex_record));
+    index_room = make_room(sizeof(size_t));
     if (mode->print != NULL)
         each_record(mode->print);
     else
-        try_edges();
+        mode->run();
     return 0;
 }
