@@ -169,6 +169,8 @@ LEXERS = {  # the symbol of List, what is linked, flags of the measuring program
     "one slice": ("sqllex_list_part", of_list, ["-DPROFILE=0", "-DSLICE=0xffffffff"]),
     "slices of 64": ("sqllex_list_part", of_list, ["-DPROFILE=0", "-DSLICE=64"]),
     "slices of 1,024": ("sqllex_list_part", of_list, ["-DPROFILE=0", "-DSLICE=1024"]),
+    "check": ("sqllex_check_list", of_list, ["-DPROFILE=0", "-DCHECKS"]),
+    "check:sqlite": ("sqllex_check_list", of_list, ["-DPROFILE=1", "-DCHECKS"]),
     "reads": ("sqllex_list", of_list, ["-DPROFILE=0", "-DREADS"]),
     "writes": ("sqllex_list", of_list, ["-DPROFILE=0", "-DWRITES"]),
     "walk": ("steps_walk", lambda machine: [walk(machine)], ["-DPROFILE=0"]),

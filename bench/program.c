@@ -1,9 +1,9 @@
 /* The program that is measured, on x86-64 Linux and on the emulated Cortex-M4 alike. It is compiled once for each lexer, with -DLIST=..
  *   program FILE REPEATS   List of the text, so many times: instructions of one pass = (those of 3 passes - those of 1) / 2; with -DCUTS
  *                          the cut of all its statements; with -DSLICE=.. its tokens but TK_NONE, in slices of so many lexemes; with
- *                          -DREADS, or -DWRITES, its literals read, or read and written again
+ *                          -DREADS, or -DWRITES, its literals read, or read and written again; with -DCHECKS its list, checked
  *   program FILE dump      the records, a line each
- *   program FILE stack     bytes of stack that calls really used; with -DALL_CALLS also those of next and cut
+ *   program FILE stack     bytes of stack that calls really used; with -DALL_CALLS also those of next, the cut and the check of the list
  * A length is 64 bits wide on both machines, since the library has it so. A lexer writes -DRECORD_WIDTH=.. numbers of a token. */
 #include <stdint.h>
 #include <stdio.h>
@@ -18,7 +18,9 @@ enum { KIND, START, LENGTH }; /* the first of a record's numbers */
 typedef uint64_t list_function(const uint8_t *text, uint64_t length, uint32_t *list, uint64_t numbers);
 typedef uint32_t place_function(const uint8_t *text, uint64_t length, uint64_t offset, uint32_t profile, uint64_t *answer);
 place_function sqllex_next, sqllex_cut;
-enum { CUT = 101 };
+typedef uint32_t check_function(const uint8_t *text, uint64_t length, uint32_t profile, const uint32_t *records, uint64_t count, uint64_t *index);
+check_function sqllex_check_list;
+enum { CUT = 101, ACCEPTED = 106 };
 static uint64_t answer[6];
 static uint32_t *record(uint32_t *l, uint64_t i) { return l + RECORD_WIDTH * i; }
 #ifdef CUTS
@@ -44,6 +46,16 @@ static uint64_t under_profile(const uint8_t *t, uint64_t n, uint32_t *l, uint64_
         count += slice[0];
     } while (status == PAUSED);
     return count;
+}
+#elif defined CHECKS
+/* In List's place the check of its records, which are made once, before the first of several passes, and so are no part of one. */
+uint64_t sqllex_list(const uint8_t *text, uint64_t length, uint32_t profile, uint32_t *list, uint64_t numbers);
+static uint64_t under_profile(const uint8_t *t, uint64_t n, uint32_t *l, uint64_t c)
+{
+    static uint64_t records, index;
+    if (!records)
+        records = sqllex_list(t, n, PROFILE, l, c);
+    return sqllex_check_list(t, n, PROFILE, l, records, &index) == ACCEPTED ? records : 0;
 }
 #elif defined READS || defined WRITES
 /* In List's place the literals of its records. The list is made once, before the first of several passes, and so is no part of one. */
@@ -165,9 +177,23 @@ static unsigned place_stack(place_function *call)
     return deep - depth(call_at_places) + RETURN;
 }
 
+static uint64_t records;
+static uint32_t no_check(const uint8_t *t, uint64_t n, uint32_t p, const uint32_t *l, uint64_t c, uint64_t *i) { return 0; }
+static check_function *volatile check_call;
+static void check_once(void) { check_call(text, length, PROFILE, list, records, answer); }
+
+static unsigned check_stack(check_function *call)
+{
+    check_call = call;
+    unsigned deep = depth(check_once);
+    check_call = no_check;
+    return deep - depth(check_once) + RETURN;
+}
+
 static void other_stacks(void)
 {
-    uint64_t records = under_profile(text, length, list, NUMBERS);
+    records = under_profile(text, length, list, NUMBERS);
+    printf("sqllex_check_list %u\n", check_stack(sqllex_check_list));
     for (place_count = 0; place_count < records; place_count++)
         places[place_count] = record(list, place_count)[START];
     places[place_count++] = length;

@@ -10,12 +10,13 @@ from machines import M4, OUT, X86, Missing, run
 from packets import above, figures as in_parts, same_tokens
 from readings import a_step, code, figures, same_lexemes
 from space import linked, sizes, stacks
-from speed import cuts, growth, instructions, length, profile, same_lists, slices, total
+from speed import CHECKS, checks, cuts, growth, instructions, length, profile, same_lists, slices, total
 
 MOST_STACK = 768  # bytes
 MOST_LOOKUP = 2400  # bytes
 MOST_INSTRUCTIONS = {X86: 55.8, M4: 69}  # a byte
 MOST_OF_STRING = 9  # instructions a byte
+MOST_OF_CHECK = {X86: 66, M4: 86}  # a byte
 MOST_GROWTH = 1  # percent from linear
 MOST_STEP = 30  # instructions
 MOST_STEPS_CODE = 2600  # bytes
@@ -76,6 +77,8 @@ def main():
         part(f"The cut of all statements, instructions a byte of the text sync, {machine.name}", cuts, machine)
     for machine in X86, M4:
         part(f"A list without TK_NONE, in slices, instructions a byte of the text sync, {machine.name}", slices, machine)
+    for machine in X86, M4:
+        part(f"The check of List's records, instructions a byte, {machine.name}", checks, machine)
     part("The walk by step", same_lexemes)
     for machine in X86, M4:
         part(f"The walk by step, instructions of the text sync, {machine.name}", figures, machine)
@@ -103,6 +106,10 @@ def main():
     for lexer in ours:
         what = f"{lexer}, instructions a byte of one string of {length('string'):,} bytes, x86-64"
         good &= try_test(what, lambda: a_byte(X86, lexer, "string"), MOST_OF_STRING)
+    for machine, most in MOST_OF_CHECK.items():
+        for lexer in CHECKS:
+            what = f"{lexer} of List's records, instructions a byte of the text sync, {machine.name}"
+            good &= try_test(what, lambda: a_byte(machine, lexer, "sync"), most)
     good &= try_test("a step, instructions as a function of its own, text sync, x86-64", lambda: a_step(X86), MOST_STEP)
     good &= try_test("the walk by step, bytes of code, Cortex-M4", lambda: code(M4), MOST_STEPS_CODE)
     for size, most in MOST_ABOVE_NEXT.items():

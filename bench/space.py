@@ -6,7 +6,7 @@ from lexers import compile_library, program
 from machines import OUT, Missing, output_of
 from speed import KINDS_OF_TEXT, present, text
 
-ENTRIES = "sqllex_next", "sqllex_list", "sqllex_list_from", "sqllex_list_part", "sqllex_cut"
+ENTRIES = "sqllex_next", "sqllex_list", "sqllex_list_from", "sqllex_list_part", "sqllex_cut", "sqllex_check_list"
 STREAM_ENTRIES = "sqllex_stream_begin", "sqllex_stream_offer", "sqllex_stream_finish"
 LITERAL_ENTRIES = tuple(f"sqllex_{call}_{kind}" for call in ("read", "write") for kind in ("integer", "string", "name", "blob"))
 ALL_ENTRIES = *ENTRIES, *STREAM_ENTRIES, *LITERAL_ENTRIES

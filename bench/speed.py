@@ -1,4 +1,5 @@
-"""Instructions: of the three lexers a byte, of the cut and of List's slices, of List by function, and how List grows."""
+"""Instructions: of the three lexers a byte, of the cut, of List's slices and of the check of its list, of List by function, and how List
+grows."""
 import bisect
 import functools
 import re
@@ -8,6 +9,7 @@ from machines import M4, OUT, ROOT, X86, Missing, one_pass, output_of, run
 
 KINDS_OF_TEXT = "sync", "keywords", "names", "floats", "operators", "string"
 SLICES = "one slice", "slices of 1,024", "slices of 64"  # of so many lexemes
+CHECKS = "check", "check:sqlite"
 
 
 def text(name):
@@ -124,6 +126,17 @@ def slices(machine):
         if output_of(machine, program(machine, lexer), text("sync"), "dump").splitlines() != tokens:
             raise SystemExit(f"bench: FAIL: {lexer} and List wrote different records of the text sync")
         print(f"{lexer:16}{total(machine, lexer, 'sync') / length('sync'):8.2f}  {len(tokens):,} records")
+
+
+def checks(machine):
+    """A list that is not accepted would look cheap; the program has no records of one."""
+    print(f"{'text':12}{'records':>8}" + "".join(f"{lexer:>14}" for lexer in CHECKS))
+    for name in KINDS_OF_TEXT:
+        for lexer in CHECKS:
+            if output_of(machine, program(machine, lexer), text(name), "dump").splitlines() != records(machine, "List", name):
+                raise SystemExit(f"bench: FAIL: List's records of the text {name} are not accepted: {lexer}")
+        a_byte = "".join(f"{total(machine, lexer, name) / length(name):14.2f}" for lexer in CHECKS)
+        print(f"{name:12}{len(records(machine, 'List', name)):8,}{a_byte}")
 
 
 def growth():
