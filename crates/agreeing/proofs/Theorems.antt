@@ -199,6 +199,14 @@ agree-front (r ∷ rs) (q ∷ qs) =
     (λ e. rw e (ap (λ (x : Record). x ∷ take (agreeing rs qs) rs) (same-is r q e) ∙ ap (λ (x : List Record). q ∷ x) (agree-front rs qs)))
     (λ e. rw e)
 
+agree-few : (rs qs : List Record) → (agreeing rs qs ≤ length rs) × (agreeing rs qs ≤ length qs)
+unfolding agreeing
+agree-few [] qs = (omega arith, omega arith)
+agree-few (r ∷ rs) [] = (omega arith, omega arith)
+agree-few (r ∷ rs) (q ∷ qs) =
+    let i = agree-few rs qs in
+    split (same r q) (λ e. rw e (omega (arith, i .0), omega (arith, i .1))) (λ e. rw e (omega arith, omega arith))
+
 agree-no-more : (rs qs : List Record) (d : Record) → agreeing rs qs < length rs → agreeing rs qs < length qs
     → getD rs (agreeing rs qs) d ≡ getD qs (agreeing rs qs) d → ⊥
 unfolding agreeing
@@ -229,6 +237,7 @@ first-differs s rs i short (inr (h, x)) w =
     x .answers ∙ ap (λ (l : List Legal). verdict rs (recordsOf (s .text) l) (x .walk .there)) p ∙ ap (verdict rs own) t in
     let (not-all, at) = differs-so (allAgree rs own && not (isRefusal (w .there))) i (agreeing rs own) same-verdicts in
     record {
+      reached = subst (λ (j : ℕ). (j ≤ length rs) × (j ≤ length own)) (sym at) (agree-few rs own);
       before = subst (λ (j : ℕ). take j rs ≡ take j own) (sym at) (agree-front rs own);
       within = λ d h k e.
           agree-no-more rs own d (omega (arith, at)) (omega (arith, at)) (subst (λ (j : ℕ). getD rs j d ≡ getD own j d) at e);

@@ -61,9 +61,10 @@ unfoldable pub Checks : Source → List Record → Checked → Type 0
 Checks s rs r =
     ((longestText < length (s .text)) × (verdictOf r ≡ tooLong)) ⊎ ((length (s .text) ≤ longestText) × Checking s rs (verdictOf r))
 
--- For `first-differs`: an index, beside the text's own records and what Next gives behind them. Those before it are the same; where both lists
--- have a record there, the two differ; where both have ended, the text is refused there.
+-- For `first-differs`: an index, beside the text's own records and what Next gives behind them. Both lists have records up to there, and these
+-- are the same; where both have one there, the two differ; where both have ended, the text is refused there.
 pub record DiffersAt (rs own : List Record) (there : Answer) (i : ℕ) : Type 0 where
+  pub reached : (i ≤ length rs) × (i ≤ length own)
   pub before : take i rs ≡ take i own
   pub within : (d : Record) → i < length rs → i < length own → getD rs i d ≡ getD own i d → ⊥
   pub behind : i ≡ length rs → i ≡ length own → isRefusal there ≡ true

@@ -1,5 +1,5 @@
--- A table of texts with lists of records, and the verdict on each: examples, which whatever meets the contract of `check_list` gives (`check-texts`).
--- Assumes nothing.
+-- A table of texts with lists of records, and the verdict on each: examples, which whatever meets the contract of `check_list` gives
+-- (`check-texts`). Assumes nothing.
 use Prim.Native.Nat.{ℕ}
 use Prim.Native.String.{String}
 use mathlib.Core.List.{List, [], _∷_}
