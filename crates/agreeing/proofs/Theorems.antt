@@ -10,7 +10,7 @@ use mathlib.Core.List.{List, [], _∷_, _++_, append-assoc}
 use mathlib.Core.Logic.{inl, inr}
 use lib.Dec.{eqb}
 use lib.ListN.{length, take, getD, length-append}
-use borrow.Author.Tests.{eqb-true, eq-eqb}
+use borrow.Author.Tests.{eqb-true, eq-eqb, not-false}
 use Rattle.keywords.proofs.Logic.{split, and-left, and-right}
 use Rattle.grammar.specs.Answers.{Answer, token, end, refusal, isRefusal}
 use Rattle.grammar.specs.Longest.{Source, Next}
@@ -221,10 +221,6 @@ differs-so : (b : Bool) (i j : ℕ) → listDiffers i ≡ cond b accepted (listD
 differs-so true i j e = let z : _≡_ {A = ℕ} 0 1 = cc in absurd (omega arith)
 differs-so false i j e = (refl, cc)
 
-refused-so : (b : Bool) → not b ≡ false → b ≡ true
-refused-so true e = refl
-refused-so false e = absurd (true≢false e)
-
 -- Not accepted: the index is that of the first record that differs, is surplus or is missing; or of the lexeme that is refused.
 pub first-differs : (s : Source) (rs : List Record) (i : ℕ) → length (s .text) ≤ longestText → Checks s rs (ListDiffers i) → (w : Walk Always s 0)
     → DiffersAt rs (recordsOf (s .text) (w .passed)) (w .there) i
@@ -244,5 +240,5 @@ first-differs s rs i short (inr (h, x)) w =
       behind = λ h k.
           let all : allAgree rs own ≡ true =
           rw (eq-eqb (agreeing rs own) (length rs) (sym at ∙ h), eq-eqb (agreeing rs own) (length own) (sym at ∙ k)) in
-          refused-so (isRefusal (w .there)) (rw all at not-all);
+          not-false (isRefusal (w .there)) (rw all at not-all);
     }
