@@ -7,9 +7,9 @@ use lib.Dec.{eqb}
 use lib.ListN.{get_or}
 use borrow.Author.Tests.{eqb-true}
 use Rattle.keywords.proofs.Logic.{and_left, and_right, every}
-use Rattle.grammar.specs.Classes.{Class, blankRun, line_comment, block_comment, operator, string, quotedName, integer, float, blob, parameter}
-use Rattle.grammar.specs.Classes.{word, illegal, unrecognized, bang, openQuote, openBlob, oddBlob, badParameter, underscore, wordAfterInteger}
-use Rattle.grammar.specs.Classes.{wordAfterFraction, noExponent, wordAfterExponent, noHexdigit, underscoreAfterX, hexUnderscore, wordAfterHex}
+use Rattle.grammar.specs.Classes.{Class, blank_run, line_comment, block_comment, operator, string, quoted_name, integer, float, blob, parameter}
+use Rattle.grammar.specs.Classes.{word, illegal, unrecognized, bang, open_quote, open_blob, odd_blob, bad_parameter, underscore, word_after_integer}
+use Rattle.grammar.specs.Classes.{word_after_fraction, no_exponent, word_after_exponent, no_hexdigit, underscore_after_x, hex_underscore, word_after_hex}
 use Rattle.grammar.proofs.ClassLaws.{number}
 
 -- a test that passes at every entry of a list and where there is none passes at each place
@@ -21,17 +21,17 @@ each_at test (x ∷ l) d (suc k) t e = each_at test l d k t (and_right (test x) 
 -- all classes, in document 01's order
 abbrev pub classes : List Class
 classes =
-    blankRun ∷ line_comment ∷ block_comment ∷ operator ∷ string ∷ quotedName ∷ integer ∷ float ∷ blob ∷ parameter ∷ word ∷ illegal ∷
-    unrecognized ∷ bang ∷ openQuote ∷ openBlob ∷ oddBlob ∷ badParameter ∷ underscore ∷ wordAfterInteger ∷ wordAfterFraction ∷ noExponent ∷
-    wordAfterExponent ∷ noHexdigit ∷ underscoreAfterX ∷ hexUnderscore ∷ wordAfterHex ∷ []
+    blank_run ∷ line_comment ∷ block_comment ∷ operator ∷ string ∷ quoted_name ∷ integer ∷ float ∷ blob ∷ parameter ∷ word ∷ illegal ∷
+    unrecognized ∷ bang ∷ open_quote ∷ open_blob ∷ odd_blob ∷ bad_parameter ∷ underscore ∷ word_after_integer ∷ word_after_fraction ∷ no_exponent ∷
+    word_after_exponent ∷ no_hexdigit ∷ underscore_after_x ∷ hex_underscore ∷ word_after_hex ∷ []
 
-at-number : (c : Class) → get_or classes (number c) blankRun ≡ c
-at-number blankRun = refl
+at-number : (c : Class) → get_or classes (number c) blank_run ≡ c
+at-number blank_run = refl
 at-number line_comment = refl
 at-number block_comment = refl
 at-number operator = refl
 at-number string = refl
-at-number quotedName = refl
+at-number quoted_name = refl
 at-number integer = refl
 at-number float = refl
 at-number blob = refl
@@ -40,24 +40,24 @@ at-number word = refl
 at-number illegal = refl
 at-number unrecognized = refl
 at-number bang = refl
-at-number openQuote = refl
-at-number openBlob = refl
-at-number oddBlob = refl
-at-number badParameter = refl
+at-number open_quote = refl
+at-number open_blob = refl
+at-number odd_blob = refl
+at-number bad_parameter = refl
 at-number underscore = refl
-at-number wordAfterInteger = refl
-at-number wordAfterFraction = refl
-at-number noExponent = refl
-at-number wordAfterExponent = refl
-at-number noHexdigit = refl
-at-number underscoreAfterX = refl
-at-number hexUnderscore = refl
-at-number wordAfterHex = refl
+at-number word_after_integer = refl
+at-number word_after_fraction = refl
+at-number no_exponent = refl
+at-number word_after_exponent = refl
+at-number no_hexdigit = refl
+at-number underscore_after_x = refl
+at-number hex_underscore = refl
+at-number word_after_hex = refl
 
 pub same_number : (c d : Class) → eqb (number c) (number d) ≡ true → c ≡ d
-same_number c d e = sym (at-number c) ∙ ap (λ (k : ℕ). get_or classes k blankRun) (eqb-true (number c) (number d) e) ∙ at-number d
+same_number c d e = sym (at-number c) ∙ ap (λ (k : ℕ). get_or classes k blank_run) (eqb-true (number c) (number d) e) ∙ at-number d
 
 -- a test that passes at every entry of that list passes at each class
 pub each-class : (test : Class → Bool) → every test classes ≡ true → (c : Class) → test c ≡ true
 each-class test e c =
-    subst (λ (c : Class). test c ≡ true) (at-number c) (each_at test classes blankRun (number c) (and_left (test blankRun) _ e) e)
+    subst (λ (c : Class). test c ≡ true) (at-number c) (each_at test classes blank_run (number c) (and_left (test blank_run) _ e) e)

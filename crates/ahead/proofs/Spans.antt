@@ -11,9 +11,9 @@ use Rattle.keywords.proofs.Logic.{split}
 use Rattle.grammar.specs.declared.profile.Profile.{Profile}
 use Rattle.grammar.specs.declared.profile.Profile.TheVariants.{Turso, Sqlite}
 use Rattle.grammar.specs.Form.{Set, D, H, no, holds, Form, ◌·◌, lit, one_of, Single, Has}
-use Rattle.grammar.specs.Classes.{Class, blankRun, line_comment, block_comment, operator, string, quotedName, integer, float, blob, parameter}
-use Rattle.grammar.specs.Classes.{word, illegal, unrecognized, bang, openQuote, openBlob, oddBlob, badParameter, underscore, wordAfterInteger}
-use Rattle.grammar.specs.Classes.{wordAfterFraction, noExponent, wordAfterExponent, noHexdigit, underscoreAfterX, hexUnderscore, wordAfterHex}
+use Rattle.grammar.specs.Classes.{Class, blank_run, line_comment, block_comment, operator, string, quoted_name, integer, float, blob, parameter}
+use Rattle.grammar.specs.Classes.{word, illegal, unrecognized, bang, open_quote, open_blob, odd_blob, bad_parameter, underscore, word_after_integer}
+use Rattle.grammar.specs.Classes.{word_after_fraction, no_exponent, word_after_exponent, no_hexdigit, underscore_after_x, hex_underscore, word_after_hex}
 use Rattle.grammar.specs.Classes.{zero_x, ◌is◌, rules}
 use Rattle.grammar.specs.Answers.{Answer, token, answer, first, after_last, init}
 use Rattle.grammar.specs.Longest.{Stands, anywhere}
@@ -74,10 +74,10 @@ Near at l look a = Places at l look (span_end a) (offset a)
 
 -- no lexeme is empty; and there are two classes whose span does not tell the lexeme's length
 abbrev Long : Class → List ℕ → Type 0
-Long c w = (0 < length w) × (c ≡ noHexdigit → length w ≡ 2) × (c ≡ underscoreAfterX → length w ≡ 3)
+Long c w = (0 < length w) × (c ≡ no_hexdigit → length w ≡ 2) × (c ≡ underscore_after_x → length w ≡ 3)
 
-only-zero-x : (p : Profile) → (only noHexdigit (anywhere (rules p)) ≡ (noHexdigit is zero_x) ∷ [])
-    × (only underscoreAfterX (anywhere (rules p)) ≡ (underscoreAfterX is zero_x · lit "_") ∷ [])
+only-zero-x : (p : Profile) → (only no_hexdigit (anywhere (rules p)) ≡ (no_hexdigit is zero_x) ∷ [])
+    × (only underscore_after_x (anywhere (rules p)) ≡ (underscore_after_x is zero_x · lit "_") ∷ [])
 unfolding rules
 only-zero-x Turso = (refl, refl)
 only-zero-x Sqlite = (refl, refl)
@@ -102,12 +102,12 @@ zero-x-then w (u, v, e, x, (a, b, f, y, z)) =
 module _ (p : Profile) where
   near : (c : Class) (at : ℕ) (w : List ℕ) → Long c w → Near at (length w) (look_ahead p c) (answer c at w)
   unfolding answer look_ahead
-  near blankRun at w h = passed at (length w) (look_ahead p blankRun) (at_most_two p blankRun)
+  near blank_run at w h = passed at (length w) (look_ahead p blank_run) (at_most_two p blank_run)
   near line_comment at w h = passed at (length w) (look_ahead p line_comment) (at_most_two p line_comment)
   near block_comment at w h = passed at (length w) (look_ahead p block_comment) (at_most_two p block_comment)
   near operator at w h = passed at (length w) (look_ahead p operator) (at_most_two p operator)
   near string at w h = passed at (length w) (look_ahead p string) (at_most_two p string)
-  near quotedName at w h = passed at (length w) (look_ahead p quotedName) (at_most_two p quotedName)
+  near quoted_name at w h = passed at (length w) (look_ahead p quoted_name) (at_most_two p quoted_name)
   near integer at w h = passed at (length w) (look_ahead p integer) (at_most_two p integer)
   near float at w h = passed at (length w) (look_ahead p float) (at_most_two p float)
   near blob at w h = passed at (length w) (look_ahead p blob) (at_most_two p blob)
@@ -116,21 +116,21 @@ module _ (p : Profile) where
   near illegal at w h = passed at (length w) (look_ahead p illegal) (at_most_two p illegal)
   near unrecognized at w h = passed at (length w) 1 (omega arith)
   near bang at w h = whole at (length w) 1 (omega arith)
-  near openQuote at w h = whole at (length w) 1 (omega arith)
-  near openBlob at w h = whole at (length w) 1 (omega arith)
-  near oddBlob at w h = whole at (length w) 0 (omega arith)
-  near badParameter at w h = whole at (length w) 2 (omega arith)
+  near open_quote at w h = whole at (length w) 1 (omega arith)
+  near open_blob at w h = whole at (length w) 1 (omega arith)
+  near odd_blob at w h = whole at (length w) 0 (omega arith)
+  near bad_parameter at w h = whole at (length w) 2 (omega arith)
   near underscore at w h =
       to_end at (length w) 1 (max 1 (after_last (no D) (init w))) (omega arith) (omega (arith, h.0, last-inside (no D) (init w), init-length w))
-  near wordAfterInteger at w h = to_last at w 0
-  near wordAfterFraction at w h = to_last at w (first (one_of ".") w)
-  near noExponent at w h = to_end at (length w) 1 (first (one_of "eE") w) (omega arith) (first-inside (one_of "eE") w)
-  near wordAfterExponent at w h = to_last at w (first (one_of "eE") w)
-  near noHexdigit at w h = refused at (length w) 1 0 2 (omega (arith, h.1 refl)) (λ some. omega (arith, h.1 refl))
-  near underscoreAfterX at w h = refused at (length w) 0 2 0 (omega (arith, h.2 refl)) (λ some. absurd (omega arith))
-  near hexUnderscore at w h =
+  near word_after_integer at w h = to_last at w 0
+  near word_after_fraction at w h = to_last at w (first (one_of ".") w)
+  near no_exponent at w h = to_end at (length w) 1 (first (one_of "eE") w) (omega arith) (first-inside (one_of "eE") w)
+  near word_after_exponent at w h = to_last at w (first (one_of "eE") w)
+  near no_hexdigit at w h = refused at (length w) 1 0 2 (omega (arith, h.1 refl)) (λ some. omega (arith, h.1 refl))
+  near underscore_after_x at w h = refused at (length w) 0 2 0 (omega (arith, h.2 refl)) (λ some. absurd (omega arith))
+  near hex_underscore at w h =
       to_end at (length w) 1 (after_last (no H) (init w)) (omega arith) (omega (arith, last-inside (no H) (init w), init-length w))
-  near wordAfterHex at w h = to_last at w 0
+  near word_after_hex at w h = to_last at w 0
 
   has-form : (c : Class) (f : Form) → only c (anywhere (rules p)) ≡ (c is f) ∷ [] → (s : List ℕ) (n : ℕ) → Stands (rules p) c s n → Has f (take n s)
   has-form c f e s n h = ((one-rule (anywhere (rules p)) c f e s n).0 (Lexemes.stands-anywhere (rules p) (sound p) c s n h)).1
@@ -138,8 +138,8 @@ module _ (p : Profile) where
   long : (c : Class) (s : List ℕ) (n : ℕ) → Stands (rules p) c s n → Long c (take n s)
   long c s n h = (
     omega (arith, length-take-le n s h.0, Lexemes.positive (rules p) (sound p) s c n h),
-    λ e. zero-x (take n s) (has-form noHexdigit zero_x (only-zero-x p).0 s n (subst (λ (c : Class). Stands (rules p) c s n) e h)),
-    λ e. zero-x-then (take n s) (has-form underscoreAfterX (zero_x · lit "_") (only-zero-x p).1 s n (subst (λ (c : Class). Stands (rules p) c s n) e h)),
+    λ e. zero-x (take n s) (has-form no_hexdigit zero_x (only-zero-x p).0 s n (subst (λ (c : Class). Stands (rules p) c s n) e h)),
+    λ e. zero-x-then (take n s) (has-form underscore_after_x (zero_x · lit "_") (only-zero-x p).1 s n (subst (λ (c : Class). Stands (rules p) c s n) e h)),
   )
 
   -- of the first lexeme behind an offset

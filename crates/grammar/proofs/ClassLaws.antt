@@ -10,21 +10,21 @@ use lib.ListN.{take, drop}
 use borrow.Author.Tests.{eqb-false}
 use Rattle.keywords.proofs.Logic.{split}
 use Rattle.grammar.specs.Form.{none, any, Form, Has}
-use Rattle.grammar.specs.Classes.{Class, blankRun, line_comment, block_comment, operator, string, quotedName, integer, float, blob, parameter}
-use Rattle.grammar.specs.Classes.{word, illegal, unrecognized, bang, openQuote, openBlob, oddBlob, badParameter, underscore, wordAfterInteger}
-use Rattle.grammar.specs.Classes.{wordAfterFraction, noExponent, wordAfterExponent, noHexdigit, underscoreAfterX, hexUnderscore, wordAfterHex}
+use Rattle.grammar.specs.Classes.{Class, blank_run, line_comment, block_comment, operator, string, quoted_name, integer, float, blob, parameter}
+use Rattle.grammar.specs.Classes.{word, illegal, unrecognized, bang, open_quote, open_blob, odd_blob, bad_parameter, underscore, word_after_integer}
+use Rattle.grammar.specs.Classes.{word_after_fraction, no_exponent, word_after_exponent, no_hexdigit, underscore_after_x, hex_underscore, word_after_hex}
 use Rattle.grammar.specs.Classes.{Rule, ◌is◌, ◌is◌before◌}
 use Rattle.grammar.specs.Longest.{Some, Follows, Stands, Opens}
 use Rattle.grammar.proofs.Equivalences.{both, one_of, no-left}
 
 -- in document 01's order
 abbrev pub number : Class → ℕ
-number blankRun = 0
+number blank_run = 0
 number line_comment = 1
 number block_comment = 2
 number operator = 3
 number string = 4
-number quotedName = 5
+number quoted_name = 5
 number integer = 6
 number float = 7
 number blob = 8
@@ -33,19 +33,19 @@ number word = 10
 number illegal = 11
 number unrecognized = 12
 number bang = 13
-number openQuote = 14
-number openBlob = 15
-number oddBlob = 16
-number badParameter = 17
+number open_quote = 14
+number open_blob = 15
+number odd_blob = 16
+number bad_parameter = 17
 number underscore = 18
-number wordAfterInteger = 19
-number wordAfterFraction = 20
-number noExponent = 21
-number wordAfterExponent = 22
-number noHexdigit = 23
-number underscoreAfterX = 24
-number hexUnderscore = 25
-number wordAfterHex = 26
+number word_after_integer = 19
+number word_after_fraction = 20
+number no_exponent = 21
+number word_after_exponent = 22
+number no_hexdigit = 23
+number underscore_after_x = 24
+number hex_underscore = 25
+number word_after_hex = 26
 
 -- the place of the first rule of class c
 abbrev pub place_of : Class → List Rule → ℕ

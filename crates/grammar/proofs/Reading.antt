@@ -16,7 +16,7 @@ use Rattle.grammar.specs.Form.{Set, D, byte, no, ◌or◌, one_of}
 use Rattle.grammar.specs.declared.profile.Profile.{Profile}
 use Rattle.grammar.specs.declared.profile.Profile.TheVariants.{Turso, Sqlite}
 use Rattle.words.specs.Bytes.{is_digit, is_hexdigit, is_identifier_start, is_identifier_continue, is_blank}
-use Rattle.grammar.specs.Classes.{Class, blankRun, Rule, operators, rules}
+use Rattle.grammar.specs.Classes.{Class, blank_run, Rule, operators, rules}
 use Rattle.grammar.specs.Answers.{Answer, answer}
 use Rattle.grammar.specs.Longest.{Gives}
 use Rattle.grammar.specs.Runs.{char, sees, run_length, sees_pair, part, moved, over}
@@ -216,9 +216,9 @@ unfolding rules
 classes p r = refl
 
 class-alike : (p r : Profile) (k : ℕ) → (rule_at (rules p) k).class ≡ (rule_at (rules r) k).class
-class-alike p r k = sym (class-at (rules p) k) ∙ ap (λ (l : List Class). get_or l k blankRun) (classes p r) ∙ class-at (rules r) k
+class-alike p r k = sym (class-at (rules p) k) ∙ ap (λ (l : List Class). get_or l k blank_run) (classes p r) ∙ class-at (rules r) k
   where
-    class-at : (l : List Rule) (k : ℕ) → get_or (map (λ r. r.class) l) k blankRun ≡ (rule_at l k).class
+    class-at : (l : List Rule) (k : ℕ) → get_or (map (λ r. r.class) l) k blank_run ≡ (rule_at l k).class
     class-at [] k = refl
     class-at (x ∷ l) zero = refl
     class-at (x ∷ l) (suc k) = class-at l k

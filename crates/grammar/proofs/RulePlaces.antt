@@ -82,8 +82,8 @@ word_after_exponent_rule = 25
 abbrev pub no_hexdigit_rule : ℕ
 no_hexdigit_rule = 26
 
-abbrev pub underscore_after_xRule : ℕ
-underscore_after_xRule = 27
+abbrev pub underscore_after_x_rule : ℕ
+underscore_after_x_rule = 27
 
 abbrev pub hex_underscore_rule : ℕ
 hex_underscore_rule = 28

@@ -11,7 +11,7 @@ use mathlib.Core.Logic.{◌↔◌, ◌⊎◌, inl, inr}
 use lib.ListN.{length, get_or}
 use Rattle.keywords.proofs.Logic.{split}
 use Rattle.grammar.specs.Form.{Form, never, empty, anything, Has}
-use Rattle.grammar.specs.Classes.{Rule, ◌is◌, blankRun}
+use Rattle.grammar.specs.Classes.{Rule, ◌is◌, blank_run}
 use Rattle.grammar.specs.Longest.{Some}
 use Rattle.grammar.proofs.Equivalences.{one_of, no-left}
 use Rattle.grammar.proofs.Rest.{nullable, View, is_never, is_empty, is_anything, other, view, rest, null_has, rest_has}
@@ -27,7 +27,7 @@ abbrev left : ℕ → Form → Left
 left k f = record { place = k; form = f }
 
 abbrev pub rule_at : List Rule → ℕ → Rule
-rule_at rs k = get_or rs k (blankRun is never)
+rule_at rs k = get_or rs k (blank_run is never)
 
 -- nothing is read yet
 abbrev start_from : ℕ → List Rule → State

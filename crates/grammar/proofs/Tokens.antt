@@ -10,10 +10,10 @@ use lib.Dec.{eqb}
 use lib.ListN.{length, take, drop, length-drop}
 use lib.Seq.{length-take-le}
 use Rattle.grammar.specs.declared.profile.Profile.{Profile}
-use Rattle.grammar.specs.Classes.{Class, malformed, rules, blankRun, line_comment, block_comment, operator, string, quotedName, integer}
-use Rattle.grammar.specs.Classes.{float, blob, parameter, word, illegal, unrecognized, bang, openQuote, openBlob, oddBlob}
-use Rattle.grammar.specs.Classes.{badParameter, underscore, wordAfterInteger, wordAfterFraction, noExponent, wordAfterExponent}
-use Rattle.grammar.specs.Classes.{noHexdigit, underscoreAfterX, hexUnderscore, wordAfterHex}
+use Rattle.grammar.specs.Classes.{Class, malformed, rules, blank_run, line_comment, block_comment, operator, string, quoted_name, integer}
+use Rattle.grammar.specs.Classes.{float, blob, parameter, word, illegal, unrecognized, bang, open_quote, open_blob, odd_blob}
+use Rattle.grammar.specs.Classes.{bad_parameter, underscore, word_after_integer, word_after_fraction, no_exponent, word_after_exponent}
+use Rattle.grammar.specs.Classes.{no_hexdigit, underscore_after_x, hex_underscore, word_after_hex}
 use Rattle.grammar.specs.Form.{D, one_of}
 use Rattle.grammar.specs.Answers.{Answer, token, end, refusal, is_refusal, count, sum, integer_digits, answer}
 use Rattle.grammar.specs.Longest.{Longest, Gives}
@@ -49,12 +49,12 @@ Shape false c at w a = Whole c at w a
 -- a malformed class answers a refusal, and any other a token, which is the whole lexeme
 shape : (c : Class) (at : ℕ) (w : List ℕ) → Shape (malformed c) c at w (answer c at w)
 unfolding answer malformed
-shape blankRun at w = (_, _, _, refl, inr (inr (refl, refl, refl)))
+shape blank_run at w = (_, _, _, refl, inr (inr (refl, refl, refl)))
 shape line_comment at w = (_, _, _, refl, inr (inr (refl, refl, refl)))
 shape block_comment at w = (_, _, _, refl, inr (inr (refl, refl, refl)))
 shape operator at w = (_, _, _, refl, inr (inr (refl, refl, refl)))
 shape string at w = (_, _, _, refl, inr (inr (refl, refl, refl)))
-shape quotedName at w = (_, _, _, refl, inr (inr (refl, refl, refl)))
+shape quoted_name at w = (_, _, _, refl, inr (inr (refl, refl, refl)))
 shape integer at w = (_, _, _, refl, inl (refl, refl, refl))
 shape float at w = (_, _, _, refl, inr (inl (refl, refl, refl)))
 shape blob at w = (_, _, _, refl, inr (inr (refl, refl, refl)))
@@ -63,19 +63,19 @@ shape word at w = (_, _, _, refl, inr (inr (refl, refl, refl)))
 shape illegal at w = (_, _, _, refl, inr (inr (refl, refl, refl)))
 shape unrecognized at w = (_, _, _, _, refl)
 shape bang at w = (_, _, _, _, refl)
-shape openQuote at w = (_, _, _, _, refl)
-shape openBlob at w = (_, _, _, _, refl)
-shape oddBlob at w = (_, _, _, _, refl)
-shape badParameter at w = (_, _, _, _, refl)
+shape open_quote at w = (_, _, _, _, refl)
+shape open_blob at w = (_, _, _, _, refl)
+shape odd_blob at w = (_, _, _, _, refl)
+shape bad_parameter at w = (_, _, _, _, refl)
 shape underscore at w = (_, _, _, _, refl)
-shape wordAfterInteger at w = (_, _, _, _, refl)
-shape wordAfterFraction at w = (_, _, _, _, refl)
-shape noExponent at w = (_, _, _, _, refl)
-shape wordAfterExponent at w = (_, _, _, _, refl)
-shape noHexdigit at w = (_, _, _, _, refl)
-shape underscoreAfterX at w = (_, _, _, _, refl)
-shape hexUnderscore at w = (_, _, _, _, refl)
-shape wordAfterHex at w = (_, _, _, _, refl)
+shape word_after_integer at w = (_, _, _, _, refl)
+shape word_after_fraction at w = (_, _, _, _, refl)
+shape no_exponent at w = (_, _, _, _, refl)
+shape word_after_exponent at w = (_, _, _, _, refl)
+shape no_hexdigit at w = (_, _, _, _, refl)
+shape underscore_after_x at w = (_, _, _, _, refl)
+shape hex_underscore at w = (_, _, _, _, refl)
+shape word_after_hex at w = (_, _, _, _, refl)
 
 is-refusal : (b : Bool) (c : Class) (at : ℕ) (w : List ℕ) (a : Answer) → Shape b c at w a → is_refusal a ≡ b
 is-refusal true c at w a (k, start, n, offset, e) = ap is_refusal e

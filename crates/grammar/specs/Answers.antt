@@ -6,9 +6,9 @@ use Rattle.keywords.specs.Words.{kind_in}
 use Rattle.words.specs.Bytes.{is}
 use Rattle.words.specs.Word.{kind_of}
 use Rattle.grammar.specs.Form.{Set, D, H, no, one_of, holds}
-use Rattle.grammar.specs.Classes.{Class, blankRun, line_comment, block_comment, operator, string, quotedName, integer, float, blob, parameter}
-use Rattle.grammar.specs.Classes.{word, illegal, unrecognized, bang, openQuote, openBlob, oddBlob, badParameter, underscore, wordAfterInteger}
-use Rattle.grammar.specs.Classes.{wordAfterFraction, noExponent, wordAfterExponent, noHexdigit, underscoreAfterX, hexUnderscore, wordAfterHex}
+use Rattle.grammar.specs.Classes.{Class, blank_run, line_comment, block_comment, operator, string, quoted_name, integer, float, blob, parameter}
+use Rattle.grammar.specs.Classes.{word, illegal, unrecognized, bang, open_quote, open_blob, odd_blob, bad_parameter, underscore, word_after_integer}
+use Rattle.grammar.specs.Classes.{word_after_fraction, no_exponent, word_after_exponent, no_hexdigit, underscore_after_x, hex_underscore, word_after_hex}
 use Rattle.grammar.specs.Classes.{operators}
 use Rattle.grammar.specs.Refusals.{refusal_number}
 
@@ -85,12 +85,12 @@ to_last name at w from = refused name at from (length (init w) - from)
 
 -- the answer of a class for its lexeme w at an offset
 unfoldable pub answer : Class → ℕ → List ℕ → Answer
-answer blankRun at w = legal (kind "TK_NONE") at w
+answer blank_run at w = legal (kind "TK_NONE") at w
 answer line_comment at w = legal (kind "TK_NONE") at w
 answer block_comment at w = legal (kind "TK_NONE") at w
 answer operator at w = legal (kind_in operators w) at w
 answer string at w = legal (kind "TK_STRING") at w
-answer quotedName at w = legal (kind "TK_ID") at w
+answer quoted_name at w = legal (kind "TK_ID") at w
 answer integer at w = numeral (kind "TK_INTEGER") at w (integer_digits w)
 answer float at w = numeral (kind "TK_FLOAT") at w (count D w)
 answer blob at w = legal (kind "TK_BLOB") at w
@@ -102,23 +102,23 @@ answer illegal at w = legal (kind "TK_ILLEGAL") at w
 answer unrecognized at w = refusal (refusal_number "UnrecognizedToken") at (length w) (at + length w)
 -- `!` 7, a quote never closed 2: whole span
 answer bang at w = whole "ExpectedEqualsSign" at w
-answer openQuote at w = whole "UnterminatedLiteral" at w
+answer open_quote at w = whole "UnterminatedLiteral" at w
 -- a blob never closed 2, one with an odd number of H 1: whole span
-answer openBlob at w = whole "UnterminatedLiteral" at w
-answer oddBlob at w = whole "UnrecognizedToken" at w
+answer open_blob at w = whole "UnterminatedLiteral" at w
+answer odd_blob at w = whole "UnrecognizedToken" at w
 -- 1, whole span
-answer badParameter at w = whole "UnrecognizedToken" at w
+answer bad_parameter at w = whole "UnrecognizedToken" at w
 -- 3, through the `_`. It begins after the previous `_` of the same digit run, else at the run's start: in both cases after the last
 -- byte before that `_` that is no digit. The integer part's run starts after its first digit, hence at least 1.
 answer underscore at w = to_end "BadNumber" at w (max 1 (after_last (no D) (init w)))
 -- 3, the Dig only; 4, from the dot to before S
-answer wordAfterInteger at w = to_last "BadNumber" at w 0
-answer wordAfterFraction at w = to_last "BadFractionalPart" at w (first (one_of ".") w)
+answer word_after_integer at w = to_last "BadNumber" at w 0
+answer word_after_fraction at w = to_last "BadFractionalPart" at w (first (one_of ".") w)
 -- 5, from `e` through the sign; 5, from `e` to before S
-answer noExponent at w = to_end "BadExponentPart" at w (first (one_of "eE") w)
-answer wordAfterExponent at w = to_last "BadExponentPart" at w (first (one_of "eE") w)
+answer no_exponent at w = to_end "BadExponentPart" at w (first (one_of "eE") w)
+answer word_after_exponent at w = to_last "BadExponentPart" at w (first (one_of "eE") w)
 -- 6, (start, 2); 3, length 0 after the `x`; 3, from the last group through `_`; 3, the whole integer
-answer noHexdigit at w = refused "MalformedHexInteger" at 0 2
-answer underscoreAfterX at w = refused "BadNumber" at 2 0
-answer hexUnderscore at w = to_end "BadNumber" at w (after_last (no H) (init w))
-answer wordAfterHex at w = to_last "BadNumber" at w 0
+answer no_hexdigit at w = refused "MalformedHexInteger" at 0 2
+answer underscore_after_x at w = refused "BadNumber" at 2 0
+answer hex_underscore at w = to_end "BadNumber" at w (after_last (no H) (init w))
+answer word_after_hex at w = to_last "BadNumber" at w 0

@@ -9,20 +9,20 @@ use Rattle.grammar.specs.Form.{many, text, lit, run, some, opt, through, without
 
 pub data Class : Type 0 where
   -- legal
-  blankRun line_comment block_comment operator string quotedName integer float blob parameter word illegal : Class
+  blank_run line_comment block_comment operator string quoted_name integer float blob parameter word illegal : Class
   -- malformed
-  unrecognized bang openQuote openBlob oddBlob badParameter : Class
-  underscore wordAfterInteger wordAfterFraction noExponent wordAfterExponent : Class
-  noHexdigit underscoreAfterX hexUnderscore wordAfterHex : Class
+  unrecognized bang open_quote open_blob odd_blob bad_parameter : Class
+  underscore word_after_integer word_after_fraction no_exponent word_after_exponent : Class
+  no_hexdigit underscore_after_x hex_underscore word_after_hex : Class
 
 -- whether document 01 has it among the malformed lexemes
 unfoldable pub malformed : Class → Bool
-malformed blankRun = false
+malformed blank_run = false
 malformed line_comment = false
 malformed block_comment = false
 malformed operator = false
 malformed string = false
-malformed quotedName = false
+malformed quoted_name = false
 malformed integer = false
 malformed float = false
 malformed blob = false
@@ -31,19 +31,19 @@ malformed word = false
 malformed illegal = false
 malformed unrecognized = true
 malformed bang = true
-malformed openQuote = true
-malformed openBlob = true
-malformed oddBlob = true
-malformed badParameter = true
+malformed open_quote = true
+malformed open_blob = true
+malformed odd_blob = true
+malformed bad_parameter = true
 malformed underscore = true
-malformed wordAfterInteger = true
-malformed wordAfterFraction = true
-malformed noExponent = true
-malformed wordAfterExponent = true
-malformed noHexdigit = true
-malformed underscoreAfterX = true
-malformed hexUnderscore = true
-malformed wordAfterHex = true
+malformed word_after_integer = true
+malformed word_after_fraction = true
+malformed no_exponent = true
+malformed word_after_exponent = true
+malformed no_hexdigit = true
+malformed underscore_after_x = true
+malformed hex_underscore = true
+malformed word_after_hex = true
 
 -- a form of a class, and the bytes that may follow it there; the end of the text always may
 pub record Rule : Type 0 where
@@ -151,7 +151,7 @@ unfoldable pub rules : Profile → List Rule
 rules p =
     -- Legal. Blank run; `--` to and with the next 0A or to the end; `/*` to and with the next `*/` that begins after these two
     -- bytes, or to the end.
-    blankRun is some blank ∷
+    blank_run is some blank ∷
     line_comment is lit "--" · through "\n" ∷
     line_comment is lit "--" · without "\n" before none ∷
     block_comment is lit "/*" · through "*/" ∷
@@ -161,7 +161,7 @@ rules p =
     -- `'` body `'`; with `"` or a backtick a name. In the body that quote appears only doubled.
     string is opened (one_of "'") · lit "'" ∷
     -- 7: `[` up to the first `]` is TK_ID.
-    quotedName is opened (one_of "\"") · lit "\"" ∣ opened (one_of "`") · lit "`" ∣ by p never (bracket · lit "]") ∷
+    quoted_name is opened (one_of "\"") · lit "\"" ∣ opened (one_of "`") · lit "`" ∣ by p never (bracket · lit "]") ∷
     -- Integer: Dig; `0x` or `0X` H+ ( `_` H+ )*.
     integer is dig ∣ hex_integer ∷
     -- Float: Dig `.`; Dig `.` Exp; Dig `.` Dig with or without Exp; Dig Exp; `.` Dig with or without Exp.
@@ -178,28 +178,28 @@ rules p =
     unrecognized is one U · run (no blank) before blank ∷
     -- `!` alone. A quote and body never closed. 7: unclosed (`[`) is UnterminatedLiteral to the end.
     bang is lit "!" before no (one_of "=") ∷
-    openQuote is opened (one_of "'") ∣ opened (one_of "\"") ∣ opened (one_of "`") ∣ by p never bracket before none ∷
+    open_quote is opened (one_of "'") ∣ opened (one_of "\"") ∣ opened (one_of "`") ∣ by p never bracket before none ∷
     -- `x'` H* with no quote after it. Odd number of H, closed.
-    openBlob is x · lit "'" · run H before no (one_of "'") ∷
-    oddBlob is x · lit "'" · one H · many (one H · one H) · lit "'" ∷
+    open_blob is x · lit "'" · run H before no (one_of "'") ∷
+    odd_blob is x · lit "'" · one H · many (one H · one H) · lit "'" ∷
     -- `$`, `@` alone or with pairs only; `:` with one or more pairs only; a name whose `(` part meets a blank or the end.
     -- 7: a lone `:` is UnrecognizedToken; `@>` starts with a bare `@`, refused.
-    badParameter is one (one_of "$@") · pairs ∣ lit ":" · by p (lit "::" · pairs) pairs before no C ∷
-    badParameter is named p · paren before blank ∷
+    bad_parameter is one (one_of "$@") · pairs ∣ lit ":" · by p (lit "::" · pairs) pairs before no C ∷
+    bad_parameter is named p · paren before blank ∷
     -- (A trailing S or `_` below belongs to the malformed lexeme even if its span is shorter. In the next five rules the number does
     -- not begin with `0x` or `0X`, since no Dig goes past that 0, and `e` is its first `e` or `E`.)
     -- `_` after a Dig (or after `e` and sign) with no D next. 7: refusal 3 directly after `e` and sign goes.
     underscore is (in_dig p ∣ by p (front · e · sign) never) · lit "_" before no D ∷
     -- Dig and an S that isn't `_`, `e`, `E`, nor `x`/`X` after a lone 0. `.` Dig (or Dig `.` Dig) and such an S (`x` included).
-    wordAfterInteger is dig · one (S except one_of "_eE") but zero_x ∷
-    wordAfterFraction is (lit "." · dig ∣ dig · lit "." · dig) · one (S except one_of "_eE") ∷
+    word_after_integer is dig · one (S except one_of "_eE") but zero_x ∷
+    word_after_fraction is (lit "." · dig ∣ dig · lit "." · dig) · one (S except one_of "_eE") ∷
     -- `e` and sign with neither D nor `_` next. An Exp and an S other than `_`. 7: `1e_5` and `1e_` are BadExponentPart (1,1).
-    noExponent is front · e · sign before no (exponent_start p) ∷
-    wordAfterExponent is front · exp p · one (S except one_of "_") ∷
+    no_exponent is front · e · sign before no (exponent_start p) ∷
+    word_after_exponent is front · exp p · one (S except one_of "_") ∷
     -- `0x` with neither H nor `_` next. `0x_`. An `_` after a hex integer without H next. Hex integer and an S that is neither
     -- H nor `_`.
-    noHexdigit is zero_x before no (H or one_of "_") ∷
-    underscoreAfterX is zero_x · lit "_" ∷
-    hexUnderscore is hex_integer · lit "_" before no H ∷
-    wordAfterHex is hex_integer · one (S except (H or one_of "_")) ∷
+    no_hexdigit is zero_x before no (H or one_of "_") ∷
+    underscore_after_x is zero_x · lit "_" ∷
+    hex_underscore is hex_integer · lit "_" before no H ∷
+    word_after_hex is hex_integer · one (S except (H or one_of "_")) ∷
     []

@@ -6,8 +6,8 @@ use Rattle.keywords.specs.Kinds.{kind}
 use Rattle.keywords.specs.Text.{bytes}
 use Rattle.grammar.specs.declared.profile.Profile.{Profile}
 use Rattle.grammar.specs.declared.profile.Profile.TheVariants.{Turso, Sqlite}
-use Rattle.grammar.specs.Classes.{Class, line_comment, block_comment, unrecognized, bang, openQuote, openBlob, badParameter, underscore}
-use Rattle.grammar.specs.Classes.{noExponent, noHexdigit, hexUnderscore, Rule}
+use Rattle.grammar.specs.Classes.{Class, line_comment, block_comment, unrecognized, bang, open_quote, open_blob, bad_parameter, underscore}
+use Rattle.grammar.specs.Classes.{no_exponent, no_hexdigit, hex_underscore, Rule}
 use Rattle.grammar.specs.Answers.{Answer, token, end, refusal}
 use Rattle.grammar.specs.Longest.{Gives}
 
@@ -33,9 +33,9 @@ infix 70 ◌gives◌
 abbrev pub ◌gives◌ : String → List Answer → Row
 t gives l = record { profile = Turso; text = bytes t; from = 0; answers = l }
 
-infix 70 ◌sqliteGives◌
-abbrev pub ◌sqliteGives◌ : String → List Answer → Row
-t sqliteGives l = record { profile = Sqlite; text = bytes t; from = 0; answers = l }
+infix 70 ◌sqlite_gives◌
+abbrev pub ◌sqlite_gives◌ : String → List Answer → Row
+t sqlite_gives l = record { profile = Sqlite; text = bytes t; from = 0; answers = l }
 
 -- a token by its kind's name
 abbrev pub tk : String → ℕ → ℕ → Answer
@@ -111,44 +111,44 @@ table =
     record { profile = Turso; text = bytes "a"; from = 1; answers = end 1 ∷ [] } ∷
     record { profile = Turso; text = bytes "a"; from = 2; answers = refusal 8 0 0 2 ∷ [] } ∷
     -- request 7: what it changes
-    "[" sqliteGives (refusal 2 0 1 0 ∷ []) ∷
-    "[]" sqliteGives (tk "TK_ID" 0 2 ∷ end 2 ∷ []) ∷
-    "[a]]" sqliteGives (tk "TK_ID" 0 3 ∷ tk "TK_RBRACKET" 3 1 ∷ end 4 ∷ []) ∷
-    "[a" sqliteGives (refusal 2 0 2 0 ∷ []) ∷
-    "[a 'b" sqliteGives (refusal 2 0 5 0 ∷ []) ∷
-    "]" sqliteGives (tk "TK_RBRACKET" 0 1 ∷ end 1 ∷ []) ∷
-    ":2" sqliteGives (tk "TK_VARIABLE" 0 2 ∷ end 2 ∷ []) ∷
-    ":" sqliteGives (refusal 1 0 1 0 ∷ []) ∷
-    "::a" sqliteGives (refusal 1 0 1 0 ∷ []) ∷
-    ":::a" sqliteGives (tk "TK_VARIABLE" 0 4 ∷ end 4 ∷ []) ∷
-    ":$" sqliteGives (tk "TK_VARIABLE" 0 2 ∷ end 2 ∷ []) ∷
-    ":>" sqliteGives (refusal 1 0 1 0 ∷ []) ∷
-    "&&" sqliteGives (tk "TK_BITAND" 0 1 ∷ tk "TK_BITAND" 1 1 ∷ end 2 ∷ []) ∷
-    "&" sqliteGives (tk "TK_BITAND" 0 1 ∷ end 1 ∷ []) ∷
-    "@>" sqliteGives (refusal 1 0 1 0 ∷ []) ∷
-    "1e_5" sqliteGives (refusal 5 1 1 0 ∷ []) ∷
-    "1e_" sqliteGives (refusal 5 1 1 0 ∷ []) ∷
-    "1e+_1" sqliteGives (refusal 5 1 2 0 ∷ []) ∷
-    "1e_1e" sqliteGives (refusal 5 1 1 0 ∷ []) ∷
-    "1_2" sqliteGives (num "TK_INTEGER" 0 3 2 1 ∷ end 3 ∷ []) ∷
-    "1e1_1" sqliteGives (num "TK_FLOAT" 0 5 3 1 ∷ end 5 ∷ []) ∷
-    "$a::b(c)" sqliteGives (tk "TK_VARIABLE" 0 8 ∷ end 8 ∷ []) ∷
+    "[" sqlite_gives (refusal 2 0 1 0 ∷ []) ∷
+    "[]" sqlite_gives (tk "TK_ID" 0 2 ∷ end 2 ∷ []) ∷
+    "[a]]" sqlite_gives (tk "TK_ID" 0 3 ∷ tk "TK_RBRACKET" 3 1 ∷ end 4 ∷ []) ∷
+    "[a" sqlite_gives (refusal 2 0 2 0 ∷ []) ∷
+    "[a 'b" sqlite_gives (refusal 2 0 5 0 ∷ []) ∷
+    "]" sqlite_gives (tk "TK_RBRACKET" 0 1 ∷ end 1 ∷ []) ∷
+    ":2" sqlite_gives (tk "TK_VARIABLE" 0 2 ∷ end 2 ∷ []) ∷
+    ":" sqlite_gives (refusal 1 0 1 0 ∷ []) ∷
+    "::a" sqlite_gives (refusal 1 0 1 0 ∷ []) ∷
+    ":::a" sqlite_gives (tk "TK_VARIABLE" 0 4 ∷ end 4 ∷ []) ∷
+    ":$" sqlite_gives (tk "TK_VARIABLE" 0 2 ∷ end 2 ∷ []) ∷
+    ":>" sqlite_gives (refusal 1 0 1 0 ∷ []) ∷
+    "&&" sqlite_gives (tk "TK_BITAND" 0 1 ∷ tk "TK_BITAND" 1 1 ∷ end 2 ∷ []) ∷
+    "&" sqlite_gives (tk "TK_BITAND" 0 1 ∷ end 1 ∷ []) ∷
+    "@>" sqlite_gives (refusal 1 0 1 0 ∷ []) ∷
+    "1e_5" sqlite_gives (refusal 5 1 1 0 ∷ []) ∷
+    "1e_" sqlite_gives (refusal 5 1 1 0 ∷ []) ∷
+    "1e+_1" sqlite_gives (refusal 5 1 2 0 ∷ []) ∷
+    "1e_1e" sqlite_gives (refusal 5 1 1 0 ∷ []) ∷
+    "1_2" sqlite_gives (num "TK_INTEGER" 0 3 2 1 ∷ end 3 ∷ []) ∷
+    "1e1_1" sqlite_gives (num "TK_FLOAT" 0 5 3 1 ∷ end 5 ∷ []) ∷
+    "$a::b(c)" sqlite_gives (tk "TK_VARIABLE" 0 8 ∷ end 8 ∷ []) ∷
     -- and what it leaves, so that each class has a lexeme under either profile
-    "a\t--b\n/*c*/'d'x'0f'#e" sqliteGives
+    "a\t--b\n/*c*/'d'x'0f'#e" sqlite_gives
     (tk "TK_ID" 0 1 ∷ tk "TK_NONE" 1 1 ∷ tk "TK_NONE" 2 4 ∷ tk "TK_NONE" 6 5 ∷ tk "TK_STRING" 11 3 ∷ tk "TK_BLOB" 14 5 ∷
     tk "TK_ILLEGAL" 19 2 ∷ end 21 ∷ []) ∷
-    "{a b" sqliteGives (refusal 1 0 2 2 ∷ tk "TK_NONE" 2 1 ∷ tk "TK_ID" 3 1 ∷ end 4 ∷ []) ∷
-    "!" sqliteGives (refusal 7 0 1 0 ∷ []) ∷
-    "x'1g'" sqliteGives (refusal 2 0 3 0 ∷ []) ∷
-    "x'1'" sqliteGives (refusal 1 0 4 0 ∷ []) ∷
-    "1e5_a" sqliteGives (refusal 3 2 2 0 ∷ []) ∷
-    "1a" sqliteGives (refusal 3 0 1 0 ∷ []) ∷
-    "1.5a" sqliteGives (refusal 4 1 2 0 ∷ []) ∷
-    "1e5a" sqliteGives (refusal 5 1 2 0 ∷ []) ∷
-    "0x" sqliteGives (refusal 6 0 2 0 ∷ []) ∷
-    "0x_1" sqliteGives (refusal 3 2 0 0 ∷ []) ∷
-    "0x1_" sqliteGives (refusal 3 2 2 0 ∷ []) ∷
-    "0x1g" sqliteGives (refusal 3 0 3 0 ∷ []) ∷
+    "{a b" sqlite_gives (refusal 1 0 2 2 ∷ tk "TK_NONE" 2 1 ∷ tk "TK_ID" 3 1 ∷ end 4 ∷ []) ∷
+    "!" sqlite_gives (refusal 7 0 1 0 ∷ []) ∷
+    "x'1g'" sqlite_gives (refusal 2 0 3 0 ∷ []) ∷
+    "x'1'" sqlite_gives (refusal 1 0 4 0 ∷ []) ∷
+    "1e5_a" sqlite_gives (refusal 3 2 2 0 ∷ []) ∷
+    "1a" sqlite_gives (refusal 3 0 1 0 ∷ []) ∷
+    "1.5a" sqlite_gives (refusal 4 1 2 0 ∷ []) ∷
+    "1e5a" sqlite_gives (refusal 5 1 2 0 ∷ []) ∷
+    "0x" sqlite_gives (refusal 6 0 2 0 ∷ []) ∷
+    "0x_1" sqlite_gives (refusal 3 2 0 0 ∷ []) ∷
+    "0x1_" sqlite_gives (refusal 3 2 2 0 ∷ []) ∷
+    "0x1g" sqlite_gives (refusal 3 0 3 0 ∷ []) ∷
     []
 
 -- the first n bytes of a text do not stand in the class
@@ -171,18 +171,18 @@ unfits =
     unfit block_comment "/*a*/" 3 ∷
     unfit unrecognized "{a" 1 ∷
     unfit bang "!=" 1 ∷
-    unfit openQuote "'a'" 2 ∷
-    unfit openBlob "x'12'" 4 ∷
-    unfit badParameter "$a" 1 ∷
-    unfit badParameter ":::a" 3 ∷
-    unfit badParameter "$a(b)" 4 ∷
+    unfit open_quote "'a'" 2 ∷
+    unfit open_blob "x'12'" 4 ∷
+    unfit bad_parameter "$a" 1 ∷
+    unfit bad_parameter ":::a" 3 ∷
+    unfit bad_parameter "$a(b)" 4 ∷
     unfit underscore "1_2" 2 ∷
-    unfit noExponent "1e5" 2 ∷
-    unfit noExponent "1e_" 2 ∷
-    unfit noHexdigit "0x1" 2 ∷
-    unfit noHexdigit "0x_" 2 ∷
-    unfit hexUnderscore "0x1_2" 4 ∷
-    sqlite_unfit openQuote "[a]" 2 ∷
-    sqlite_unfit badParameter ":a" 1 ∷
-    sqlite_unfit noExponent "1e5" 2 ∷
+    unfit no_exponent "1e5" 2 ∷
+    unfit no_exponent "1e_" 2 ∷
+    unfit no_hexdigit "0x1" 2 ∷
+    unfit no_hexdigit "0x_" 2 ∷
+    unfit hex_underscore "0x1_2" 4 ∷
+    sqlite_unfit open_quote "[a]" 2 ∷
+    sqlite_unfit bad_parameter ":a" 1 ∷
+    sqlite_unfit no_exponent "1e5" 2 ∷
     []

@@ -13,7 +13,7 @@ use Rattle.grammar.specs.Classes.{operators, rules}
 use Rattle.grammar.specs.Answers.{after_last, init, answer}
 use Rattle.grammar.specs.Runs.{char, sees, part, moved}
 use Rattle.grammar.proofs.Seen.{misses-none, misses-or, except-sees}
-use Rattle.grammar.proofs.RulePlaces.{integer_rule, no_hexdigit_rule, underscore_after_xRule, hex_underscore_rule, word_after_hex_rule}
+use Rattle.grammar.proofs.RulePlaces.{integer_rule, no_hexdigit_rule, underscore_after_x_rule, hex_underscore_rule, word_after_hex_rule}
 use Rattle.grammar.proofs.Reading.{Reads, Ends, behind, ends-long, reads-eat, reads-joined, reads-stop}
 use Rattle.lexer.specs.declared.lexed.Refusal.TheVariants.{BadNumber, MalformedHexInteger}
 use Rattle.lexer.specs.declared.lexed.Lexed.{Lexed}
@@ -51,9 +51,9 @@ module _ {s : List ℕ} {from at : ℕ} (p : Hex s from at) (n u : ℕ) where
   unfolding behind rules operators is_digit is_hexdigit is_identifier_start is_identifier_continue is_blank
   hex-reads h = reads-joined p.reads (behind "0x1") H (behind "0x1") refl h
 
-  hex-line : sees (char "_") (drop at s) ≡ true → Ends s from (moved at s) underscore_after_xRule
+  hex-line : sees (char "_") (drop at s) ≡ true → Ends s from (moved at s) underscore_after_x_rule
   unfolding behind rules operators is_digit is_hexdigit is_identifier_start is_identifier_continue is_blank
-  hex-line h = reads-stop (reads-eat p.reads (char "_") (behind "0x_") refl h refl) none underscore_after_xRule refl refl (misses-none _)
+  hex-line h = reads-stop (reads-eat p.reads (char "_") (behind "0x_") refl h refl) none underscore_after_x_rule refl refl (misses-none _)
 
   hex-none : sees H (drop at s) ≡ false → sees (char "_") (drop at s) ≡ false → Ends s from at no_hexdigit_rule
   unfolding behind rules operators is_digit is_hexdigit is_identifier_start is_identifier_continue is_blank

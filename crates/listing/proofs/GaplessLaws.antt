@@ -10,9 +10,9 @@ use lib.ListN.{length, take, drop}
 use borrow.Author.Tests.{eqb-true, eqb-false}
 use Rattle.keywords.proofs.Logic.{split}
 use Rattle.grammar.specs.Classes.{Class, malformed}
-use Rattle.grammar.specs.Classes.{blankRun, line_comment, block_comment, operator, string, quotedName, integer, float, blob, parameter, word, illegal}
-use Rattle.grammar.specs.Classes.{unrecognized, bang, openQuote, openBlob, oddBlob, badParameter, underscore, wordAfterInteger, wordAfterFraction}
-use Rattle.grammar.specs.Classes.{noExponent, wordAfterExponent, noHexdigit, underscoreAfterX, hexUnderscore, wordAfterHex}
+use Rattle.grammar.specs.Classes.{blank_run, line_comment, block_comment, operator, string, quoted_name, integer, float, blob, parameter, word, illegal}
+use Rattle.grammar.specs.Classes.{unrecognized, bang, open_quote, open_blob, odd_blob, bad_parameter, underscore, word_after_integer, word_after_fraction}
+use Rattle.grammar.specs.Classes.{no_exponent, word_after_exponent, no_hexdigit, underscore_after_x, hex_underscore, word_after_hex}
 use Rattle.grammar.specs.Answers.{Answer, token, end, refusal, answer}
 use Rattle.grammar.specs.Longest.{Source, Next}
 use Rattle.grammar.proofs.Tokens.{told, whole-token}
@@ -151,12 +151,12 @@ number_given (refusal number start n offset) = number
 
 refuses-with : (c : Class) (at : ℕ) (w : List ℕ) → number_given (answer c at w) < list_refusal "TooLong"
 unfolding answer
-refuses-with blankRun at w = omega arith
+refuses-with blank_run at w = omega arith
 refuses-with line_comment at w = omega arith
 refuses-with block_comment at w = omega arith
 refuses-with operator at w = omega arith
 refuses-with string at w = omega arith
-refuses-with quotedName at w = omega arith
+refuses-with quoted_name at w = omega arith
 refuses-with integer at w = omega arith
 refuses-with float at w = omega arith
 refuses-with blob at w = omega arith
@@ -165,19 +165,19 @@ refuses-with word at w = omega arith
 refuses-with illegal at w = omega arith
 refuses-with unrecognized at w = omega arith
 refuses-with bang at w = omega arith
-refuses-with openQuote at w = omega arith
-refuses-with openBlob at w = omega arith
-refuses-with oddBlob at w = omega arith
-refuses-with badParameter at w = omega arith
+refuses-with open_quote at w = omega arith
+refuses-with open_blob at w = omega arith
+refuses-with odd_blob at w = omega arith
+refuses-with bad_parameter at w = omega arith
 refuses-with underscore at w = omega arith
-refuses-with wordAfterInteger at w = omega arith
-refuses-with wordAfterFraction at w = omega arith
-refuses-with noExponent at w = omega arith
-refuses-with wordAfterExponent at w = omega arith
-refuses-with noHexdigit at w = omega arith
-refuses-with underscoreAfterX at w = omega arith
-refuses-with hexUnderscore at w = omega arith
-refuses-with wordAfterHex at w = omega arith
+refuses-with word_after_integer at w = omega arith
+refuses-with word_after_fraction at w = omega arith
+refuses-with no_exponent at w = omega arith
+refuses-with word_after_exponent at w = omega arith
+refuses-with no_hexdigit at w = omega arith
+refuses-with underscore_after_x at w = omega arith
+refuses-with hex_underscore at w = omega arith
+refuses-with word_after_hex at w = omega arith
 
 pub never-full : (s : Source) (to : ℕ) (a : Answer) → RunEnds s to a → (at : ℕ) → a ≡ list_full at → ⊥
 never-full s to a (inl (h, e)) at f = let z : ◌≡◌ {A = ℕ} 8 10 = ap number_given (sym e ∙ f) in omega arith

@@ -11,7 +11,7 @@ use Rattle.keywords.specs.Kinds.{kind}
 use Rattle.grammar.specs.declared.profile.Profile.{Profile}
 use Rattle.grammar.specs.declared.profile.Profile.TheVariants.{Turso, Sqlite}
 use Rattle.grammar.specs.Form.{Form, Has, H, one, many, one_of, lit, ◌·◌, ◌∣◌}
-use Rattle.grammar.specs.Classes.{Class, rules, ◌is◌, malformed, string, quotedName, integer, blob, opened, dig, hex_integer, x}
+use Rattle.grammar.specs.Classes.{Class, rules, ◌is◌, malformed, string, quoted_name, integer, blob, opened, dig, hex_integer, x}
 use Rattle.grammar.specs.Answers.{token, answer}
 use Rattle.grammar.specs.Longest.{Longest}
 use Rattle.grammar.proofs.ClassLaws.{only, one-rule}
@@ -41,7 +41,7 @@ module _ (p : Profile) where
       let same : token k 0 (length w) (0 + length w) d u ≡ answer c 0 (take (length w) w) = rw (take-length w, ← kinds) (sym f) in
       (d, (u, inr (inr (o, (c, length w, h, same)))))
 
-only_one : (p : Profile) → (only string (rules p) ≡ (string is opened (one_of "'") · lit "'") ∷ []) × (only quotedName (rules p) ≡ (quotedName is quoted_form p) ∷ [])
+only_one : (p : Profile) → (only string (rules p) ≡ (string is opened (one_of "'") · lit "'") ∷ []) × (only quoted_name (rules p) ≡ (quoted_name is quoted_form p) ∷ [])
     × (only integer (rules p) ≡ (integer is dig ∣ hex_integer) ∷ []) × (only blob (rules p) ≡ (blob is x · lit "'" · many (one H · one H) · lit "'") ∷ [])
 unfolding rules
 only_one Turso = (refl, refl, refl, refl)
@@ -54,7 +54,7 @@ module _ (p : Profile) (w : List ℕ) (o : 0 < length w) where
 
   pub is-id : Has (quoted_form p) w → IsToken p w 0 (length w) (kind "TK_ID")
   unfolding answer malformed
-  is-id h = given p quotedName _ w refl refl o (longest p quotedName _ (only_one p).1 w h)
+  is-id h = given p quoted_name _ w refl refl o (longest p quoted_name _ (only_one p).1 w h)
 
   pub is-integer : Has (dig ∣ hex_integer) w → IsToken p w 0 (length w) (kind "TK_INTEGER")
   unfolding answer malformed

@@ -12,7 +12,7 @@ use Rattle.words.specs.Bytes.{is_digit, is_hexdigit, is_identifier_start, is_ide
 use Rattle.grammar.specs.declared.profile.Profile.{Profile}
 use Rattle.grammar.specs.declared.profile.Profile.TheVariants.{Turso, Sqlite}
 use Rattle.grammar.specs.Form.{none, Form, never, anything, ◌·◌, ◌∣◌, ◌but◌, Has, lit}
-use Rattle.grammar.specs.Classes.{Class, line_comment, block_comment, operator, string, quotedName, integer, float, blob, parameter, oddBlob}
+use Rattle.grammar.specs.Classes.{Class, line_comment, block_comment, operator, string, quoted_name, integer, float, blob, parameter, odd_blob}
 use Rattle.grammar.specs.Classes.{◌is◌, ◌is◌before◌, by, operators, rules}
 use Rattle.grammar.specs.Longest.{Stands, Opens}
 use Rattle.pages.specs.Pages
@@ -59,7 +59,7 @@ unfolding rules
 string-page = same-both string Pages.string string-rule refl
 
 -- Blobs, and blobs with an odd number of digits, which are refused, are together the page's BLOB literals.
-blob-rule : (π : Profile) → OneRule π blob (form_of Turso blob) × OneRule π oddBlob (form_of Turso oddBlob)
+blob-rule : (π : Profile) → OneRule π blob (form_of Turso blob) × OneRule π odd_blob (form_of Turso odd_blob)
 unfolding rules
 blob-rule Turso = (refl, refl)
 blob-rule Sqlite = (refl, refl)
@@ -75,12 +75,12 @@ either f g s n = (make, take)
     take (l, inl h) = inl (l, h)
     take (l, inr h) = inr (l, h)
 
-pub blob-page : (π : Profile) (s : List ℕ) (n : ℕ) → (Stands (rules π) blob s n ⊎ Stands (rules π) oddBlob s n) ↔ Opens Pages.blob s n
+pub blob-page : (π : Profile) (s : List ℕ) (n : ℕ) → (Stands (rules π) blob s n ⊎ Stands (rules π) odd_blob s n) ↔ Opens Pages.blob s n
 unfolding rules is_digit is_hexdigit
 blob-page π s n =
     let f = form_of Turso blob in
-    let g = form_of Turso oddBlob in
-    Iff.trans (one_of (one-rule (rules π) blob f (blob-rule π).0 s n) (one-rule (rules π) oddBlob g (blob-rule π).1 s n))
+    let g = form_of Turso odd_blob in
+    Iff.trans (one_of (one-rule (rules π) blob f (blob-rule π).0 s n) (one-rule (rules π) odd_blob g (blob-rule π).1 s n))
     (Iff.trans (either f g s n) (opens (f ∣ g) Pages.blob (equal enough (f ∣ g) Pages.blob refl) s n))
 
 without-underscore : (π : Profile) (c : Class) (g f : Form) → OneRule π c g → is_equal enough (g but anything · lit "_" · anything) f ≡ true
@@ -168,10 +168,10 @@ at-like-colon s n =
     Iff.trans (opening (64 ∷ s) (suc n)) (Iff.trans (both Iff.rfl whole) (Iff.symm (opening (58 ∷ s) (suc n))))
 
 -- Quoted names are the page's, those in square brackets under Sqlite alone.
-pub quoted-name-page : (π : Profile) → Pages.Same (rules π) quotedName (Pages.in_double_quotes ∣ Pages.in_grave_accents ∣ by π never Pages.in_square_brackets)
+pub quoted-name-page : (π : Profile) → Pages.Same (rules π) quoted_name (Pages.in_double_quotes ∣ Pages.in_grave_accents ∣ by π never Pages.in_square_brackets)
 unfolding rules
-quoted-name-page Turso = same Turso quotedName (form_of Turso quotedName) (Pages.in_double_quotes ∣ Pages.in_grave_accents ∣ never) refl refl
-quoted-name-page Sqlite = same Sqlite quotedName (form_of Sqlite quotedName) (Pages.in_double_quotes ∣ Pages.in_grave_accents ∣ Pages.in_square_brackets) refl refl
+quoted-name-page Turso = same Turso quoted_name (form_of Turso quoted_name) (Pages.in_double_quotes ∣ Pages.in_grave_accents ∣ never) refl refl
+quoted-name-page Sqlite = same Sqlite quoted_name (form_of Sqlite quoted_name) (Pages.in_double_quotes ∣ Pages.in_grave_accents ∣ Pages.in_square_brackets) refl refl
 
 -- Operators are the page's and its diagrams' marks, and under Sqlite `]` alone besides.
 pub operator-page : (π : Profile) → Pages.Same (rules π) operator (Pages.operators ∣ Pages.marks ∣ Pages.not_on_page π)

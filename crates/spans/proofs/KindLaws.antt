@@ -15,10 +15,10 @@ use Rattle.words.specs.Word.{fold, kind_of}
 use Rattle.grammar.specs.declared.profile.Profile.{Profile}
 use Rattle.grammar.specs.declared.profile.Profile.TheVariants.{Turso, Sqlite}
 use Rattle.grammar.specs.Form.{one_of, Form, Has, never, lit, ◌·◌, ◌∣◌}
-use Rattle.grammar.specs.Classes.{Class, Rule, rules, operators, malformed, by, opened, bracket, blankRun, line_comment, block_comment, operator, string, quotedName}
-use Rattle.grammar.specs.Classes.{integer, float, blob, parameter, word, illegal, unrecognized, bang, openQuote, openBlob, oddBlob, badParameter}
-use Rattle.grammar.specs.Classes.{underscore, wordAfterInteger, wordAfterFraction, noExponent, wordAfterExponent, noHexdigit, underscoreAfterX}
-use Rattle.grammar.specs.Classes.{hexUnderscore, wordAfterHex}
+use Rattle.grammar.specs.Classes.{Class, Rule, rules, operators, malformed, by, opened, bracket, blank_run, line_comment, block_comment, operator, string, quoted_name}
+use Rattle.grammar.specs.Classes.{integer, float, blob, parameter, word, illegal, unrecognized, bang, open_quote, open_blob, odd_blob, bad_parameter}
+use Rattle.grammar.specs.Classes.{underscore, word_after_integer, word_after_fraction, no_exponent, word_after_exponent, no_hexdigit, underscore_after_x}
+use Rattle.grammar.specs.Classes.{hex_underscore, word_after_hex}
 use Rattle.grammar.specs.Answers.{Answer, token, end, refusal, answer}
 use Rattle.grammar.specs.Longest.{Some, Follows, Stands}
 use Rattle.grammar.proofs.Equal.{is_void, is_within, void, within}
@@ -64,12 +64,12 @@ this c k j e f = let i : j ≡ k = omega arith in f ∙ ap class_for i
 
 pub literal-class : (c : Class) (at : ℕ) (w : List ℕ) (k : ℕ) → is_literal k ≡ true → suc k ≡ kind_after (answer c at w) → c ≡ class_for k
 unfolding answer kind_of
-literal-class blankRun at w k t e = other blankRun k _ t e refl
+literal-class blank_run at w k t e = other blank_run k _ t e refl
 literal-class line_comment at w k t e = other line_comment k _ t e refl
 literal-class block_comment at w k t e = other block_comment k _ t e refl
 literal-class operator at w k t e = other operator k _ t e (found-kind is_literal operators w no-operator refl)
 literal-class string at w k t e = this string k (kind "TK_STRING") e refl
-literal-class quotedName at w k t e = other quotedName k _ t e refl
+literal-class quoted_name at w k t e = other quoted_name k _ t e refl
 literal-class integer at w k t e = this integer k (kind "TK_INTEGER") e refl
 literal-class float at w k t e = other float k _ t e refl
 literal-class blob at w k t e = this blob k (kind "TK_BLOB") e refl
@@ -78,19 +78,19 @@ literal-class word at w k t e = other word k _ t e (found-kind is_literal word_l
 literal-class illegal at w k t e = other illegal k _ t e refl
 literal-class unrecognized at w k t e = absurd (omega arith)
 literal-class bang at w k t e = absurd (omega arith)
-literal-class openQuote at w k t e = absurd (omega arith)
-literal-class openBlob at w k t e = absurd (omega arith)
-literal-class oddBlob at w k t e = absurd (omega arith)
-literal-class badParameter at w k t e = absurd (omega arith)
+literal-class open_quote at w k t e = absurd (omega arith)
+literal-class open_blob at w k t e = absurd (omega arith)
+literal-class odd_blob at w k t e = absurd (omega arith)
+literal-class bad_parameter at w k t e = absurd (omega arith)
 literal-class underscore at w k t e = absurd (omega arith)
-literal-class wordAfterInteger at w k t e = absurd (omega arith)
-literal-class wordAfterFraction at w k t e = absurd (omega arith)
-literal-class noExponent at w k t e = absurd (omega arith)
-literal-class wordAfterExponent at w k t e = absurd (omega arith)
-literal-class noHexdigit at w k t e = absurd (omega arith)
-literal-class underscoreAfterX at w k t e = absurd (omega arith)
-literal-class hexUnderscore at w k t e = absurd (omega arith)
-literal-class wordAfterHex at w k t e = absurd (omega arith)
+literal-class word_after_integer at w k t e = absurd (omega arith)
+literal-class word_after_fraction at w k t e = absurd (omega arith)
+literal-class no_exponent at w k t e = absurd (omega arith)
+literal-class word_after_exponent at w k t e = absurd (omega arith)
+literal-class no_hexdigit at w k t e = absurd (omega arith)
+literal-class underscore_after_x at w k t e = absurd (omega arith)
+literal-class hex_underscore at w k t e = absurd (omega arith)
+literal-class word_after_hex at w k t e = absurd (omega arith)
 
 -- Of the rules that are legal, what opens a quoted name opens those of quoted names alone.
 abbrev pub quoted_form : Profile → Form

@@ -13,7 +13,7 @@ use Rattle.keywords.specs.Kinds.{kind}
 use Rattle.grammar.specs.declared.profile.Profile.{Profile}
 use Rattle.grammar.specs.declared.profile.Profile.TheVariants.{Turso, Sqlite}
 use Rattle.grammar.specs.Form.{Form, Has, H, one, many, one_of, lit, ◌·◌, ◌∣◌}
-use Rattle.grammar.specs.Classes.{Class, rules, ◌is◌, malformed, string, quotedName, integer, blob, opened, dig, hex_integer, x}
+use Rattle.grammar.specs.Classes.{Class, rules, ◌is◌, malformed, string, quoted_name, integer, blob, opened, dig, hex_integer, x}
 use Rattle.grammar.specs.Answers.{Answer, token, end, refusal, answer, sum, integer_digits}
 use Rattle.grammar.specs.Longest.{Longest, Stands, Gives}
 use Rattle.grammar.proofs.ClassLaws.{number, only, one-rule}

@@ -10,9 +10,9 @@ use Rattle.keywords.proofs.Logic.{split}
 use Rattle.grammar.specs.declared.profile.Profile.{Profile}
 use Rattle.grammar.specs.declared.profile.Profile.TheVariants.{Turso, Sqlite}
 use Rattle.grammar.specs.Form.{Set, holds, ◌·◌, lit, one_of, Single, Has}
-use Rattle.grammar.specs.Classes.{Class, blankRun, line_comment, block_comment, operator, string, quotedName, integer, float, blob, parameter}
-use Rattle.grammar.specs.Classes.{word, illegal, unrecognized, bang, openQuote, openBlob, oddBlob, badParameter, underscore, wordAfterInteger}
-use Rattle.grammar.specs.Classes.{wordAfterFraction, noExponent, wordAfterExponent, noHexdigit, underscoreAfterX, hexUnderscore, wordAfterHex}
+use Rattle.grammar.specs.Classes.{Class, blank_run, line_comment, block_comment, operator, string, quoted_name, integer, float, blob, parameter}
+use Rattle.grammar.specs.Classes.{word, illegal, unrecognized, bang, open_quote, open_blob, odd_blob, bad_parameter, underscore, word_after_integer}
+use Rattle.grammar.specs.Classes.{word_after_fraction, no_exponent, word_after_exponent, no_hexdigit, underscore_after_x, hex_underscore, word_after_hex}
 use Rattle.grammar.specs.Classes.{zero_x, ◌is◌, rules}
 use Rattle.grammar.specs.Answers.{token, end, refusal, answer, first, init}
 use Rattle.grammar.specs.Longest.{Stands, anywhere, Longest, Gives}
@@ -33,7 +33,7 @@ to_last : (w : List ℕ) (from : ℕ) → from ≤ length w → 0 + from + (leng
 to_last w from l = omega (arith, length-take-le (length w - 1) w (omega arith))
 
 -- the one class that looks not ahead and whose span is told by numbers has these bytes
-only-zero-x : (p : Profile) → only underscoreAfterX (anywhere (rules p)) ≡ (underscoreAfterX is zero_x · lit "_") ∷ []
+only-zero-x : (p : Profile) → only underscore_after_x (anywhere (rules p)) ≡ (underscore_after_x is zero_x · lit "_") ∷ []
 unfolding rules
 only-zero-x Turso = refl
 only-zero-x Sqlite = refl
@@ -63,15 +63,15 @@ module _ (p : Profile) where
   end-inside w o g = let (h, d) = end-told p w 0 o g in omega arith
 
   -- where a class looks ahead its span ends with the lexeme, and else not behind it
-  answer-inside : (c : Class) (w : List ℕ) → (0 < look_ahead p c → span_end (answer c 0 w) ≡ length w) → (c ≡ underscoreAfterX → 2 ≤ length w)
+  answer-inside : (c : Class) (w : List ℕ) → (0 < look_ahead p c → span_end (answer c 0 w) ≡ length w) → (c ≡ underscore_after_x → 2 ≤ length w)
       → span_end (answer c 0 w) ≤ length w
   unfolding answer look_ahead
-  answer-inside blankRun w h i = omega arith
+  answer-inside blank_run w h i = omega arith
   answer-inside line_comment w h i = omega arith
   answer-inside block_comment w h i = omega arith
   answer-inside operator w h i = omega arith
   answer-inside string w h i = omega arith
-  answer-inside quotedName w h i = omega arith
+  answer-inside quoted_name w h i = omega arith
   answer-inside integer w h i = omega arith
   answer-inside float w h i = omega arith
   answer-inside blob w h i = omega arith
@@ -80,27 +80,27 @@ module _ (p : Profile) where
   answer-inside illegal w h i = omega arith
   answer-inside unrecognized w h i = omega arith
   answer-inside bang w h i = omega arith
-  answer-inside openQuote w h i = omega arith
-  answer-inside openBlob w h i = omega arith
-  answer-inside oddBlob w h i = omega arith
-  answer-inside badParameter w h i = omega arith
+  answer-inside open_quote w h i = omega arith
+  answer-inside open_blob w h i = omega arith
+  answer-inside odd_blob w h i = omega arith
+  answer-inside bad_parameter w h i = omega arith
   answer-inside underscore w h i = omega (arith, h (omega arith))
-  answer-inside wordAfterInteger w h i = to_last w 0 (omega arith)
-  answer-inside wordAfterFraction w h i = to_last w (first (one_of ".") w) (first-inside (one_of ".") w)
-  answer-inside noExponent w h i = omega (arith, h (omega arith))
-  answer-inside wordAfterExponent w h i = to_last w (first (one_of "eE") w) (first-inside (one_of "eE") w)
-  answer-inside noHexdigit w h i = omega (arith, h (omega arith))
-  answer-inside underscoreAfterX w h i = omega (arith, i refl)
-  answer-inside hexUnderscore w h i = omega (arith, h (omega arith))
-  answer-inside wordAfterHex w h i = to_last w 0 (omega arith)
+  answer-inside word_after_integer w h i = to_last w 0 (omega arith)
+  answer-inside word_after_fraction w h i = to_last w (first (one_of ".") w) (first-inside (one_of ".") w)
+  answer-inside no_exponent w h i = omega (arith, h (omega arith))
+  answer-inside word_after_exponent w h i = to_last w (first (one_of "eE") w) (first-inside (one_of "eE") w)
+  answer-inside no_hexdigit w h i = omega (arith, h (omega arith))
+  answer-inside underscore_after_x w h i = omega (arith, i refl)
+  answer-inside hex_underscore w h i = omega (arith, h (omega arith))
+  answer-inside word_after_hex w h i = to_last w 0 (omega arith)
 
   span-inside : (c : Class) (s : List ℕ) (n : ℕ) → Stands (rules p) c s n → span_end (answer c 0 (take n s)) ≤ n
   span-inside c s n h =
       let long = length-take-le n s h.0 in
-      let has : c ≡ underscoreAfterX → 2 ≤ length (take n s) =
+      let has : c ≡ underscore_after_x → 2 ≤ length (take n s) =
       λ e.
-      let g = Lexemes.stands-anywhere (rules p) (sound p) underscoreAfterX s n (subst (λ (c : Class). Stands (rules p) c s n) e h) in
-      zero-x-long (take n s) ((one-rule (anywhere (rules p)) underscoreAfterX (zero_x · lit "_") (only-zero-x p) s n).0 g).1 in
+      let g = Lexemes.stands-anywhere (rules p) (sound p) underscore_after_x s n (subst (λ (c : Class). Stands (rules p) c s n) e h) in
+      zero-x-long (take n s) ((one-rule (anywhere (rules p)) underscore_after_x (zero_x · lit "_") (only-zero-x p) s n).0 g).1 in
       omega (arith, answer-inside c (take n s) (λ looks. omega (arith, (span-near p c 0 s n h).2 looks)) has)
 
   -- The span of a refusal, and the offset that it leaves, lie inside the text.

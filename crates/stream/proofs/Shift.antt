@@ -6,9 +6,9 @@ use mathlib.Core.Bool.{not, true≢false}
 use mathlib.Core.List.{List}
 use lib.Dec.{eqb}
 use lib.ListN.{length}
-use Rattle.grammar.specs.Classes.{Class, blankRun, line_comment, block_comment, operator, string, quotedName, integer, float, blob, parameter}
-use Rattle.grammar.specs.Classes.{word, illegal, unrecognized, bang, openQuote, openBlob, oddBlob, badParameter, underscore, wordAfterInteger}
-use Rattle.grammar.specs.Classes.{wordAfterFraction, noExponent, wordAfterExponent, noHexdigit, underscoreAfterX, hexUnderscore, wordAfterHex}
+use Rattle.grammar.specs.Classes.{Class, blank_run, line_comment, block_comment, operator, string, quoted_name, integer, float, blob, parameter}
+use Rattle.grammar.specs.Classes.{word, illegal, unrecognized, bang, open_quote, open_blob, odd_blob, bad_parameter, underscore, word_after_integer}
+use Rattle.grammar.specs.Classes.{word_after_fraction, no_exponent, word_after_exponent, no_hexdigit, underscore_after_x, hex_underscore, word_after_hex}
 use Rattle.grammar.specs.Answers.{Answer, token, end, refusal, answer}
 use Rattle.ahead.specs.Ahead.{span_end}
 use Rattle.ahead.proofs.Each.{each-class}
@@ -37,12 +37,12 @@ passed-shift k at n =
 -- The answer of a class at an offset is its answer at 0, told from that offset on.
 pub shift-answer : (c : Class) (at : ℕ) (w : List ℕ) → answer c at w ≡ shift at (answer c 0 w)
 unfolding answer
-shift-answer blankRun at w = token-shift _ at (length w) _ _
+shift-answer blank_run at w = token-shift _ at (length w) _ _
 shift-answer line_comment at w = token-shift _ at (length w) _ _
 shift-answer block_comment at w = token-shift _ at (length w) _ _
 shift-answer operator at w = token-shift _ at (length w) _ _
 shift-answer string at w = token-shift _ at (length w) _ _
-shift-answer quotedName at w = token-shift _ at (length w) _ _
+shift-answer quoted_name at w = token-shift _ at (length w) _ _
 shift-answer integer at w = token-shift _ at (length w) _ _
 shift-answer float at w = token-shift _ at (length w) _ _
 shift-answer blob at w = token-shift _ at (length w) _ _
@@ -51,19 +51,19 @@ shift-answer word at w = token-shift _ at (length w) _ _
 shift-answer illegal at w = token-shift _ at (length w) _ _
 shift-answer unrecognized at w = passed-shift _ at (length w)
 shift-answer bang at w = refused-shift _ at _ _
-shift-answer openQuote at w = refused-shift _ at _ _
-shift-answer openBlob at w = refused-shift _ at _ _
-shift-answer oddBlob at w = refused-shift _ at _ _
-shift-answer badParameter at w = refused-shift _ at _ _
+shift-answer open_quote at w = refused-shift _ at _ _
+shift-answer open_blob at w = refused-shift _ at _ _
+shift-answer odd_blob at w = refused-shift _ at _ _
+shift-answer bad_parameter at w = refused-shift _ at _ _
 shift-answer underscore at w = refused-shift _ at _ _
-shift-answer wordAfterInteger at w = refused-shift _ at _ _
-shift-answer wordAfterFraction at w = refused-shift _ at _ _
-shift-answer noExponent at w = refused-shift _ at _ _
-shift-answer wordAfterExponent at w = refused-shift _ at _ _
-shift-answer noHexdigit at w = refused-shift _ at _ _
-shift-answer underscoreAfterX at w = refused-shift _ at _ _
-shift-answer hexUnderscore at w = refused-shift _ at _ _
-shift-answer wordAfterHex at w = refused-shift _ at _ _
+shift-answer word_after_integer at w = refused-shift _ at _ _
+shift-answer word_after_fraction at w = refused-shift _ at _ _
+shift-answer no_exponent at w = refused-shift _ at _ _
+shift-answer word_after_exponent at w = refused-shift _ at _ _
+shift-answer no_hexdigit at w = refused-shift _ at _ _
+shift-answer underscore_after_x at w = refused-shift _ at _ _
+shift-answer hex_underscore at w = refused-shift _ at _ _
+shift-answer word_after_hex at w = refused-shift _ at _ _
 
 -- the place behind its span is told from there too
 pub span-shift : (at : ℕ) (a : Answer) → span_end (shift at a) ≡ at + span_end a
