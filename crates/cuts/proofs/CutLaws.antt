@@ -25,23 +25,23 @@ use Rattle.lexer.specs.declared.lexed.Lexed.{Lexed}
 use Rattle.lexer.specs.declared.lexed.Lexed.TheVariants.{Token, End as Over, Refused as Bad}
 use Rattle.lexer.specs.Values.{LexesUnder, number_of}
 use Rattle.lexer.specs.contracts.lexed.Lexed as Lexed-is
-use Rattle.walks.specs.Walk.{Legal, token_of, not_none_lem, Passes}
+use Rattle.walks.specs.Walk.{Legal, token_of, not_none, Passes}
 use Rattle.walks.proofs.WalkLaws.{legal, token-passes, end-no-token, refusal-no-token, passes-ahead}
 use Rattle.cuts.specs.declared.Statement.{Statement}
 use Rattle.cuts.specs.declared.Statement.TheVariants.{Cut, Refused}
 use Rattle.cuts.specs.Cuts.{CutAnswer, kinds_of, Within, some_not_none, cut_answer, Cutting, values_of, Cuts}
 
-pub not_none_lem : (k : ℕ) (b : Bool) → (k ≡ kind "TK_NONE" → ⊥) → true ≡ not_none_lem k || b
+pub not_none_lem : (k : ℕ) (b : Bool) → (k ≡ kind "TK_NONE" → ⊥) → true ≡ not_none k || b
 not_none_lem k b other =
     split (eqb k (kind "TK_NONE"))
     (λ e. absurd (other (eqb→eq k (kind "TK_NONE") (subst T (sym e) tt))))
     (λ e. rw e refl)
 
-has-one-more : (l : List Legal) (t : Legal) → some_not_none (l ++ (t ∷ [])) ≡ not_none_lem t.kind || some_not_none l
+has-one-more : (l : List Legal) (t : Legal) → some_not_none (l ++ (t ∷ [])) ≡ not_none t.kind || some_not_none l
 unfolding some_not_none
 has-one-more [] t = refl
 has-one-more (u ∷ l) t =
-    ap (λ (b : Bool). not_none_lem u.kind || b) (has-one-more l t) ∙ or_swap (not_none_lem u.kind) (not_none_lem t.kind) (some_not_none l)
+    ap (λ (b : Bool). not_none u.kind || b) (has-one-more l t) ∙ or_swap (not_none u.kind) (not_none t.kind) (some_not_none l)
   where
     or_swap : (a b c : Bool) → (a || (b || c)) ≡ (b || (a || c))
     or_swap true true c = refl
@@ -77,7 +77,7 @@ module _ {s : Source} {from at : ℕ} {any : Bool} {seen : Seen} (v : Uncut s fr
 
   pub onward : (k start m : ℕ) (next : Cursor) (d u : ℕ) → LexesUnder s.profile s.text at (Token k start m next d u)
       → (here : Bool) → SaysEnd seen k here → here ≡ false
-      → (more : Bool) → more ≡ not_none_lem k || any → (then : Seen) → Follows seen k then → Uncut s from next.at more then
+      → (more : Bool) → more ≡ not_none k || any → (then : Seen) → Follows seen k then → Uncut s from next.at more then
   unfolding LexesUnder SaysEnd Follows
   onward k start m next d u h here says left more e then follows =
       let t = legal k start m d u in
@@ -85,7 +85,7 @@ module _ {s : Source} {from at : ℕ} {any : Bool} {seen : Seen} (v : Uncut s fr
       record {
         passed = v.passed ++ (t ∷ []);
         passes = token-passes Within s from v.passed at k start m next.at d u v.passes h passed;
-        has = e ∙ ap (λ (b : Bool). not_none_lem k || b) v.has ∙ sym (has-one-more v.passed t);
+        has = e ∙ ap (λ (b : Bool). not_none k || b) v.has ∙ sym (has-one-more v.passed t);
         tells = subst (Tells then) (sym (kinds-one-more v.passed t)) (follows (kinds_of v.passed) v.tells);
       }
 

@@ -9,7 +9,7 @@ use Rattle.keywords.proofs.Logic.{and_left, and_right}
 use Rattle.keywords.specs.Words.{word_list}
 use Rattle.words.specs.Bytes.{is_digit, is_hexdigit, is_identifier_start, is_identifier_continue, is_blank}
 use Rattle.words.specs.Word.{upper, kind_of}
-use Rattle.triggers.proofs.EndLaws.{ends_now_lem, ends_now_lem}
+use Rattle.triggers.proofs.EndLaws.{ends_now, ends_now_lem}
 use Rattle.grammar.specs.Classes.{operators, rules}
 use Rattle.grammar.specs.Answers.{answer}
 use Rattle.grammar.specs.Longest.{Every}
@@ -27,7 +27,7 @@ cut_given r (stop l to there) = cut_answer r.from (some_not_none l) there ∷ []
 
 -- no semicolon that ends the statement
 abbrev within : Test
-within l t = not (eqb t.kind (kind "TK_SEMI") && ends_now_lem (kinds_of l))
+within l t = not (eqb t.kind (kind "TK_SEMI") && ends_now (kinds_of l))
 
 abbrev cut_walk : CutRow → Stop
 cut_walk r = walk 40 within r.source [] r.from
@@ -48,15 +48,15 @@ within-decides = record { yes = passes; not = stops }
 
     passes : (l : List Legal) (t : Legal) → within l t ≡ true → Within l t
     passes l t e (is, ends) =
-        let p = ap (λ (b : Bool). not (b && ends_now_lem (kinds_of l))) (semi t.kind is) in
+        let p = ap (λ (b : Bool). not (b && ends_now (kinds_of l))) (semi t.kind is) in
         let q = ap (λ (b : Bool). not (true && b)) ((ends_now_lem (kinds_of l)).1 ends) in
         true≢false (sym e ∙ p ∙ q)
 
     stops : (l : List Legal) (t : Legal) → within l t ≡ false → Within l t → ⊥
     stops l t e o =
-        let both = not-false (eqb t.kind (kind "TK_SEMI") && ends_now_lem (kinds_of l)) e in
-        let is = and_left (eqb t.kind (kind "TK_SEMI")) (ends_now_lem (kinds_of l)) both in
-        let ends = and_right (eqb t.kind (kind "TK_SEMI")) (ends_now_lem (kinds_of l)) both in
+        let both = not-false (eqb t.kind (kind "TK_SEMI") && ends_now (kinds_of l)) e in
+        let is = and_left (eqb t.kind (kind "TK_SEMI")) (ends_now (kinds_of l)) both in
+        let ends = and_right (eqb t.kind (kind "TK_SEMI")) (ends_now (kinds_of l)) both in
         o (eqb→eq t.kind (kind "TK_SEMI") (subst T (sym is) tt), (ends_now_lem (kinds_of l)).0 ends)
 
 cut-row : (r : CutRow) (w : Stop) → Right Within r.source r.from w → cut_given r w ≡ r.answer ∷ []

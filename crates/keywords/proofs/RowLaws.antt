@@ -9,14 +9,14 @@ use lib.ListN.{length, get_or}
 use borrow.Author.Tests.{leb-true, lt-leb, eqb-true, eqb-false, ne_eqb}
 use Rattle.keywords.specs.Kinds.{kind}
 use Rattle.keywords.specs.Words.{Entry, word_list, same, kind_in}
-use Rattle.keywords.specs.Rows.{row_of, row_entry, of_length_lem, kind_of_row}
+use Rattle.keywords.specs.Rows.{row_of, row_entry, of_length, kind_of_row}
 use Rattle.keywords.specs.Stored.{beginning}
 use Rattle.keywords.proofs.Logic.{split, and_left, and_right, and-false, every}
 use Rattle.keywords.proofs.KindLaws.{keyword, all-keywords, short}
 use Rattle.keywords.proofs.SameLaws.{same_true}
 
 -- no word is longer than its row
-pub longer : (n : ℕ) (es : List Entry) → every keyword es ≡ true → 17 < n → of_length_lem n es ≡ []
+pub longer : (n : ℕ) (es : List Entry) → every keyword es ≡ true → 17 < n → of_length n es ≡ []
 longer n [] t h = refl
 longer n (e ∷ es) t h =
     let s = short e (and_left (keyword e) (every keyword es) t) in
@@ -47,7 +47,7 @@ other r (b ∷ w) t f =
 
 -- only words with the row's first byte decide
 abbrev ByFirst : ℕ → List Entry → List ℕ → Type 0
-ByFirst n es r = kind_in (map row_entry (of_length_lem n es)) r ≡ kind_in (map row_entry (beginning (get_or r 0 0) (of_length_lem n es))) r
+ByFirst n es r = kind_in (map row_entry (of_length n es)) r ≡ kind_in (map row_entry (beginning (get_or r 0 0) (of_length n es))) r
 
 by_first : (n : ℕ) (es : List Entry) (r : List ℕ) → every lettered es ≡ true → ByFirst n es r
 by_first n [] r t = refl
@@ -59,11 +59,11 @@ by_first n (e ∷ es) r t =
     (λ q. rw (l, q, other r e.word (and_left (lettered e) (every lettered es) t) q) more))
     (λ l. rw l more)
 
-pub first-decides : (n : ℕ) (r : List ℕ) → kind_of_row n r ≡ kind_in (map row_entry (beginning (get_or r 0 0) (of_length_lem n word_list))) r
+pub first-decides : (n : ℕ) (r : List ℕ) → kind_of_row n r ≡ kind_in (map row_entry (beginning (get_or r 0 0) (of_length n word_list))) r
 unfolding kind_of_row
 first-decides n r = by_first n word_list r all-lettered
 
-none-begins : (b n : ℕ) (es : List Entry) → every lettered es ≡ true → letter b ≡ false → beginning b (of_length_lem n es) ≡ []
+none-begins : (b n : ℕ) (es : List Entry) → every lettered es ≡ true → letter b ≡ false → beginning b (of_length n es) ≡ []
 none-begins b n [] t f = refl
 none-begins b n (e ∷ es) t f =
     let more = none-begins b n es (and_right (lettered e) (every lettered es) t) f in

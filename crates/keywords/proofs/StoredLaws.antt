@@ -13,7 +13,7 @@ use lib.Seq.{drop-cons, take_at, drop_at, get_or-append-add}
 use borrow.Author.Tests.{eqb-true, ltb-true, ltb-false}
 use Rattle.keywords.specs.Kinds.{kind}
 use Rattle.keywords.specs.Words.{Entry, word_list, same, kind_in}
-use Rattle.keywords.specs.Rows.{row_of, row_entry, of_length_lem, kind_of_row}
+use Rattle.keywords.specs.Rows.{row_of, row_entry, of_length, kind_of_row}
 use Rattle.keywords.specs.Stored.{beginning, group, before, stored, start_of, kind_at}
 use Rattle.keywords.proofs.Logic.{split, and_left, and_right, every, every-at}
 use Rattle.keywords.proofs.RowLaws.{first-decides}
@@ -67,7 +67,7 @@ start_small x h =
 abbrev of_n : ℕ → Entry → Bool
 of_n n e = eqb (length e.word) n
 
-length-of : (n : ℕ) (es : List Entry) → every (of_n n) (of_length_lem n es) ≡ true
+length-of : (n : ℕ) (es : List Entry) → every (of_n n) (of_length n es) ≡ true
 length-of n [] = refl
 length-of n (e ∷ es) = split (of_n n e) (λ t. rw (t, t) (length-of n es)) (λ f. rw f (length-of n es))
 
@@ -94,7 +94,7 @@ word-length x k h l m =
     let n = x / 28 in
     let s = start-next x in
     let e = ap (λ es. get_or es k none) b.1 ∙ middle (before x) (group x) b.0 k l (omega arith) in
-    let t = begin-of n _ (of_length_lem n word_list) (length-of n word_list) in
+    let t = begin-of n _ (of_length n word_list) (length-of n word_list) in
     eqb-true _ _ (ap (of_n n) e ∙ every-at (of_n n) (group x) none (k - length (before x)) (omega arith) t)
 
 -- at word k, where b says whether the row is its row

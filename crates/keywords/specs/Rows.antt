@@ -14,10 +14,10 @@ abbrev pub row_entry : Entry → Entry
 row_entry e = record { word = row_of 17 e.word; kind = e.kind }
 
 -- the entries whose words have n bytes
-abbrev pub of_length_lem : ℕ → List Entry → List Entry
-of_length_lem n [] = []
-of_length_lem n (e ∷ es) = cond (eqb (length e.word) n) (e ∷ of_length_lem n es) (of_length_lem n es)
+abbrev pub of_length : ℕ → List Entry → List Entry
+of_length n [] = []
+of_length n (e ∷ es) = cond (eqb (length e.word) n) (e ∷ of_length n es) (of_length n es)
 
 -- the kind of the first word of n bytes whose row is r, else TK_ID
 unfoldable pub kind_of_row : ℕ → List ℕ → ℕ
-kind_of_row n r = kind_in (map row_entry (of_length_lem n word_list)) r
+kind_of_row n r = kind_in (map row_entry (of_length n word_list)) r

@@ -4,7 +4,7 @@
 use Rattle.std.specs.Prelude.{ℕ, zero, suc, ◌+◌, ◌*◌, ◌/◌, ◌%◌, cond, List, [], ◌∷◌, ◌++◌, map, eqb, length, get_or}
 use Prim.Native.Char.{code}
 use Rattle.keywords.specs.Words.{Entry, word_list}
-use Rattle.keywords.specs.Rows.{of_length_lem}
+use Rattle.keywords.specs.Rows.{of_length}
 
 -- the entries whose words begin with the byte b
 abbrev pub beginning : ℕ → List Entry → List Entry
@@ -13,7 +13,7 @@ beginning b (e ∷ es) = cond (eqb (get_or e.word 0 0) b) (e ∷ beginning b es)
 
 -- group 28 n + a: the words of n bytes that begin with letter a, A being letter 0. No word is in the two groups of a length behind Z
 unfoldable pub group : ℕ → List Entry
-group x = beginning (code "A" + x % 28) (of_length_lem (x / 28) word_list)
+group x = beginning (code "A" + x % 28) (of_length (x / 28) word_list)
 
 -- the words of the groups before x, group by group
 abbrev pub before : ℕ → List Entry

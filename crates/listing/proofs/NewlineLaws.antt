@@ -27,15 +27,15 @@ use Rattle.grammar.proofs.Tokens.{told}
 use Rattle.listing.specs.Lines.{backtick, has_no_newline}
 
 -- A form has only texts without a 0A, since none of its sets holds one.
-abbrev one_line_lem : Form → Bool
-one_line_lem never = true
-one_line_lem empty = true
-one_line_lem anything = false
-one_line_lem (one s) = not (holds s newline)
-one_line_lem (f · g) = one_line_lem f && one_line_lem g
-one_line_lem (f ∣ g) = one_line_lem f && one_line_lem g
-one_line_lem (f but g) = one_line_lem f
-one_line_lem (many f) = one_line_lem f
+abbrev one_line : Form → Bool
+one_line never = true
+one_line empty = true
+one_line anything = false
+one_line (one s) = not (holds s newline)
+one_line (f · g) = one_line f && one_line g
+one_line (f ∣ g) = one_line f && one_line g
+one_line (f but g) = one_line f
+one_line (many f) = one_line f
 
 joined : {w : List ℕ} (u v : List ℕ) → w ≡ u ++ v → newlines u ≡ 0 → newlines v ≡ 0 → newlines w ≡ 0
 joined u v e p q = let h = ap newlines e ∙ newlines-append u v in omega arith
@@ -51,16 +51,16 @@ unfolding newlines
 each n stop = refl
 each n (more {u = u} {v = v} e h m) = joined u v e (n u h) (each n m)
 
-one_line_lem : (f : Form) → one_line_lem f ≡ true → (w : List ℕ) → Has f w → newlines w ≡ 0
+one_line_lem : (f : Form) → one_line f ≡ true → (w : List ℕ) → Has f w → newlines w ≡ 0
 unfolding newlines
 one_line_lem never t w h = absurd h
 one_line_lem empty t w h = ap newlines h
 one_line_lem anything t w h = absurd (true≢false (sym t))
 one_line_lem (one s) t w h = single s w (not-true (holds s newline) t) h
 one_line_lem (f · g) t w (u, v, e, h, i) =
-    joined u v e (one_line_lem f (and_left (one_line_lem f) (one_line_lem g) t) u h) (one_line_lem g (and_right (one_line_lem f) (one_line_lem g) t) v i)
-one_line_lem (f ∣ g) t w (inl h) = one_line_lem f (and_left (one_line_lem f) (one_line_lem g) t) w h
-one_line_lem (f ∣ g) t w (inr h) = one_line_lem g (and_right (one_line_lem f) (one_line_lem g) t) w h
+    joined u v e (one_line_lem f (and_left (one_line f) (one_line g) t) u h) (one_line_lem g (and_right (one_line f) (one_line g) t) v i)
+one_line_lem (f ∣ g) t w (inl h) = one_line_lem f (and_left (one_line f) (one_line g) t) w h
+one_line_lem (f ∣ g) t w (inr h) = one_line_lem g (and_right (one_line f) (one_line g) t) w h
 one_line_lem (f but g) t w h = one_line_lem f t w h.0
 one_line_lem (many f) t w h = each (one_line_lem f t) h
 
@@ -115,7 +115,7 @@ kind_given (refusal k start n offset) = 0
 
 -- The computed test of all rules, of each profile. It computes for every lexeme w: a class whose texts can have a 0A has but one kind.
 abbrev tells : ℕ → List ℕ → Rule → Bool
-tells at w r = one_line_lem r.form || is_told r.form (kind_given (answer r.class at w))
+tells at w r = one_line r.form || is_told r.form (kind_given (answer r.class at w))
 
 all_tell : (p : Profile) (at : ℕ) (w : List ℕ) → every (tells at w) (rules p) ≡ true
 unfolding rules operators answer is_digit is_hexdigit is_identifier_start is_identifier_continue is_blank
@@ -136,7 +136,7 @@ no-newline p s at k start n next d u g e =
     ⊎_elim
     (λ o. one_line_lem r.form o w h)
     (λ o. absurd (true≢false (sym e ∙ sym (ap₂ has_no_newline same first) ∙ test-fails r.form j w o h)))
-    ((or-iff (one_line_lem r.form) (is_told r.form j)).0 test)
+    ((or-iff (one_line r.form) (is_told r.form j)).0 test)
 
 -- A token of one byte has none if that byte is none.
 pub one_byte : (s : List ℕ) (at : ℕ) → at < length s → (get_or s at 0 ≡ newline → ⊥) → newlines (take 1 (drop at s)) ≡ 0

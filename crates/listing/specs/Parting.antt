@@ -4,7 +4,7 @@ use Rattle.std.specs.Prelude.{ℕ, ◌<◌, ◌≡◌, Bool, true, cond, List, [
 use Rattle.grammar.specs.Answers.{Answer, token, end, refusal}
 use Rattle.grammar.specs.Longest.{Source}
 use Rattle.records.specs.Records.{at_front}
-use Rattle.walks.specs.Walk.{Legal, not_none_lem, Goes, Walk}
+use Rattle.walks.specs.Walk.{Legal, not_none, Goes, Walk}
 use Rattle.listing.specs.Listing.{records_of, HasRoom, list_full}
 
 -- which lexemes get a record
@@ -12,7 +12,7 @@ abbrev pub Keeps : Type 0
 Keeps = Legal → Bool
 
 abbrev pub not_blank : Keeps
-not_blank t = not_none_lem t.kind
+not_blank t = not_none t.kind
 
 unfoldable pub kept : Keeps → List Legal → List Legal
 kept keeps [] = []

@@ -4,7 +4,7 @@ use Rattle.std.specs.Prelude.{ℕ, ◌+◌, ◌≡◌, cond, List, [], ◌∷◌
 use Rattle.grammar.specs.Longest.{Source}
 use Rattle.records.specs.declared.Record.{Record}
 use Rattle.records.specs.Records.{read_back}
-use Rattle.walks.specs.Walk.{not_none_lem}
+use Rattle.walks.specs.Walk.{not_none}
 use Rattle.listing.specs.Listing.{list_full}
 use Rattle.listing.specs.Parting.{PartAnswer, given, paused_at, Parting}
 
@@ -46,4 +46,4 @@ Full a = (at : ℕ) × (a ≡ given (list_full at))
 -- records whose kind is not TK_NONE
 unfoldable pub without_none : List Record → List Record
 without_none [] = []
-without_none (r ∷ l) = cond (not_none_lem r.kind) (r ∷ without_none l) (without_none l)
+without_none (r ∷ l) = cond (not_none r.kind) (r ∷ without_none l) (without_none l)

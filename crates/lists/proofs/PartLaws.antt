@@ -15,7 +15,7 @@ use Rattle.grammar.specs.Longest.{Source}
 use Rattle.lexer.specs.declared.cursor.Cursor.{Cursor}
 use Rattle.lexer.specs.declared.lexed.Refusal.{Refusal}
 use Rattle.lexer.specs.Values.{number_of}
-use Rattle.walks.specs.Walk.{not_none_lem}
+use Rattle.walks.specs.Walk.{not_none}
 use Rattle.listing.specs.Listing.{list_full, longest_text}
 use Rattle.listing.specs.Parting.{Keeps, not_blank, PartAnswer, given, paused_at, part_answer, Parting}
 use Rattle.lists.specs.declared.part.Part.TheVariants.{End, Refused, TooLong, Paused, ListFull}
@@ -26,7 +26,7 @@ use Rattle.lists.specs.Parts.{Parts}
 use Rattle.lists.specs.Passing.{from_kind, Meets, Passing}
 
 -- the kinds from the one behind TK_NONE on are all but TK_NONE
-not_none_lem : (k : ℕ) → leb (kind "TK_NONE" + 1) k ≡ not_none_lem k
+not_none_lem : (k : ℕ) → leb (kind "TK_NONE" + 1) k ≡ not_none k
 not_none_lem zero = refl
 not_none_lem (suc k) =
     let some : 1 ≤ suc k = omega arith in

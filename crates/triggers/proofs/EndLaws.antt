@@ -81,16 +81,16 @@ so-semi-end kinds (before, p) =
     ap semi_end_last p ∙ ap (begins (kind "TK_END" ∷ kind "TK_SEMI" ∷ [])) (reverse-append before (kind "TK_SEMI" ∷ kind "TK_END" ∷ []))
 
 -- Whether a semicolon that comes next ends the statement, by a test.
-abbrev pub ends_now_lem : List ℕ → Bool
-ends_now_lem kinds = not (begins_one heads kinds) || semi_end_last kinds
+abbrev pub ends_now : List ℕ → Bool
+ends_now kinds = not (begins_one heads kinds) || semi_end_last kinds
 
-pub ends_now_lem : (kinds : List ℕ) → (ends_now_lem kinds ≡ true) ↔ EndsStatement kinds
+pub ends_now_lem : (kinds : List ℕ) → (ends_now kinds ≡ true) ↔ EndsStatement kinds
 ends_now_lem kinds = (so, back)
   where
-    so : ends_now_lem kinds ≡ true → EndsStatement kinds
+    so : ends_now kinds ≡ true → EndsStatement kinds
     so e x = semi-end-so kinds (subst (λ (b : Bool). not b || semi_end_last kinds ≡ true) (trigger-begins kinds x) e)
 
-    back : EndsStatement kinds → ends_now_lem kinds ≡ true
+    back : EndsStatement kinds → ends_now kinds ≡ true
     back x =
         split (begins_one heads kinds)
         (λ e. rw e (so-semi-end kinds (x (begins-trigger kinds e))))

@@ -13,7 +13,7 @@ use Rattle.triggers.specs.declared.seen.Seen.TheVariants.{Nothing, Explain, Quer
 use Rattle.triggers.specs.Triggers.{counted}
 use Rattle.triggers.specs.Seen.{begins, begins_one, heads, wanting, semi_last, semi_end_last, Lastly, Tells, Follows, SaysEnd, body_with}
 use Rattle.triggers.specs.contracts.seen.Seen as Seen-is
-use Rattle.triggers.proofs.EndLaws.{same, apart, ends_now_lem, ends_now_lem}
+use Rattle.triggers.proofs.EndLaws.{same, apart, ends_now, ends_now_lem}
 
 -- TK_NONE does not count; every other kind does
 none-counted : (k : ℕ) → k ≡ kind "TK_NONE" → counted k ≡ []
@@ -99,7 +99,7 @@ ends_in Semi = false
 ends_in End = true
 ends_in Other = true
 
-tells-ends : (s : Seen) (kinds : List ℕ) → Tells s kinds → ends_now_lem kinds ≡ ends_in s
+tells-ends : (s : Seen) (kinds : List ℕ) → Tells s kinds → ends_now kinds ≡ ends_in s
 tells-ends s kinds t =
     ap (λ (b : Bool). not b || semi_end_last kinds) (ap (begins_one heads) (sym (append-nil kinds)) ∙ t.wants []) ∙ by_last s t.lastly
   where

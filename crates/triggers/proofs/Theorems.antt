@@ -12,7 +12,7 @@ use Rattle.triggers.specs.declared.seen.Seen.{Seen}
 use Rattle.triggers.specs.declared.seen.Seen.TheVariants.{Nothing, Explain, Query, Plan, Create, Temp, Body, Semi, End, Other}
 use Rattle.triggers.specs.Triggers.{counted, IsTrigger, EndsStatement}
 use Rattle.triggers.specs.Seen.{begins_one, heads, wanting, semi_last, semi_end_last, Lastly, Tells, Follows, SaysEnd}
-use Rattle.triggers.proofs.EndLaws.{ends_now_lem, ends_now_lem}
+use Rattle.triggers.proofs.EndLaws.{ends_now, ends_now_lem}
 
 -- What is seen can be read back from how kinds must go on, and from how they end.
 abbrev seen_by : (List ℕ → Bool) → Bool → Bool → Seen
@@ -98,7 +98,7 @@ ends-unique seen k r q f g =
 -- A semicolon that comes next ends the statement, or does not.
 pub ends-or-not : (kinds : List ℕ) → EndsStatement kinds ⊎ (EndsStatement kinds → ⊥)
 ends-or-not kinds =
-    split (ends_now_lem kinds)
+    split (ends_now kinds)
     (λ e. inl ((ends_now_lem kinds).0 e))
     (λ e. inr (λ x. true≢false (sym ((ends_now_lem kinds).1 x) ∙ e)))
 
