@@ -1,4 +1,6 @@
 // A list made elsewhere, as on the phone, checked against its text: nothing about its records is trusted.
+#![tactic(auto)]
+
 mod step;
 
 ghost use Rattle.grammar.specs.Longest.{source};

@@ -1,4 +1,6 @@
 // What `sqlbatch` and `replay` print of each record of their input. `pairing` has what is printed of a list whose brackets are paired.
+#![tactic(auto)]
+
 mod pairing;
 
 ghost use Rattle.rows.specs.Out.{Within};

@@ -1,4 +1,6 @@
 // The library for C and Rust: numbers and slices in, numbers out. `include/sqllex.h` declares the calls and says what they take and give.
+#![tactic(auto)]
+
 ghost use Rattle.std.specs.Prelude.{◌≡◌};
 ghost use Rattle.words.specs.Word.{kind_of, is_quotable};
 ghost use Rattle.integers.specs.Calls.{WritesInteger};

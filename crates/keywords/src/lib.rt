@@ -1,4 +1,6 @@
 // The kinds' numbers (`kinds`), the word list as it is stored (`table`), and the lookup of a word that stands in a row of 17 bytes.
+#![tactic(auto)]
+
 pub mod kinds;
 mod table;
 

@@ -1,4 +1,6 @@
 // The kinds' names, for programs that print them. Nothing of this is needed to lex.
+#![tactic(auto)]
+
 ghost use Rattle.std.specs.Prelude.{◌≡◌, ◌<◌};
 ghost use Rattle.names.specs.Names.{name_row, all_names};
 

@@ -1,5 +1,7 @@
 // The brackets of a list of records, paired: two passes, so that a list which is refused leaves the lent one as it was. The first reads
 // groups and items, and decides; the second goes the same way, and writes.
+#![tactic(auto)]
+
 mod kinds;
 mod reading;
 mod writing;

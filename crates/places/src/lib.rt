@@ -1,4 +1,6 @@
 // The line of a place of a text, found by going along the text.
+#![tactic(auto)]
+
 ghost use Rattle.std.specs.Prelude.{◌≡◌, ◌+◌, ◌≤◌, min, length};
 ghost use Rattle.std.proofs.Math.Seq.{slice};
 ghost use Rattle.places.specs.Lines.{most, line_over, has_newline, Clear, FirstNewline};

@@ -1,5 +1,7 @@
 // A reader that carries its text and its profile. Each call takes it apart and asks the by-value core; what moves hands the moved reader
 // back.
+#![tactic(auto)]
+
 ghost use Rattle.std.specs.Prelude.{◌≡◌, drop};
 ghost use Rattle.lexer.specs.Eaten.{head};
 ghost use Rattle.lexer.specs.Values.{LexesUnder};

@@ -1,4 +1,6 @@
 // A record of a list: what a list has of a token, in five numbers, one behind the other.
+#![tactic(auto)]
+
 ghost use Rattle.std.specs.Prelude.{◌≡◌};
 ghost use Rattle.records.specs.Records.{is_free, with_record};
 

@@ -1,5 +1,7 @@
 // sqlbatch MODE [PROFILE]: what `next`, also with sums, a list of N numbers, one without TK_NONE that passes A lexemes at most, the cut, the
 // word's lookup, a stream's calls, those that read or write literals, or the one that pairs brackets answer for each record of standard input.
+#![tactic(auto)]
+
 mod arguments;
 
 use crate::arguments::{Asked, read_arguments};

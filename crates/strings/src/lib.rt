@@ -1,4 +1,6 @@
 // Strings and quoted names: read from a span of a text, and written into a buffer.
+#![tactic(auto)]
+
 pub mod reading;
 mod width;
 pub mod writing;

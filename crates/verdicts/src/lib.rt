@@ -1,5 +1,7 @@
 // What `check_list` is asked and answers, in numbers: which profile a number chooses, and the status and the index of an answer. The call
 // that takes a slice of records is proved by hand, in `capi`; what it decides is decided here. `pairing` has what `pair` answers.
+#![tactic(auto)]
+
 pub mod pairing;
 
 ghost use Rattle.std.specs.Prelude.{◌≡◌};
