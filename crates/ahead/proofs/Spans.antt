@@ -1,5 +1,6 @@
 -- How far an answer's span, and the offset that it leaves, lie from the end of the lexeme and of what it looks ahead. Assumes nothing.
 use Prim.Native.Nat.{ℕ, ◌+◌, ◌-◌, ◌≤◌, ◌<◌, max}
+use Prim.Native.Char.{code}
 use native.Mathlib.Omega.{arith}
 use mathlib.Core.Path.{◌≡◌, refl, ◌∙◌, ap, subst}
 use mathlib.Core.List.{List, [], ◌∷◌}
@@ -10,12 +11,12 @@ use borrow.Author.Tests.{leb-true}
 use Rattle.keywords.proofs.Logic.{split}
 use Rattle.grammar.specs.declared.profile.Profile.{Profile}
 use Rattle.grammar.specs.declared.profile.Profile.TheVariants.{Turso, Sqlite}
-use Rattle.grammar.specs.Form.{Set, D, H, no, holds, Form, ◌·◌, lit, one_of, Single, Has}
+use Rattle.grammar.specs.Form.{Set, D, H, no, byte, holds, Form, ◌·◌, lit, one_of, Single, Has}
 use Rattle.grammar.specs.Classes.{Class, blank_run, line_comment, block_comment, operator, string, quoted_name, integer, float, blob, parameter}
 use Rattle.grammar.specs.Classes.{word, illegal, unrecognized, bang, open_quote, open_blob, odd_blob, bad_parameter, underscore, word_after_integer}
 use Rattle.grammar.specs.Classes.{word_after_fraction, no_exponent, word_after_exponent, no_hexdigit, underscore_after_x, hex_underscore, word_after_hex}
 use Rattle.grammar.specs.Classes.{zero_x, ◌is◌, rules}
-use Rattle.grammar.specs.Answers.{Answer, token, answer, first, after_last, init}
+use Rattle.grammar.specs.Answers.{Answer, answer, first, after_last, init}
 use Rattle.grammar.specs.Longest.{Stands, anywhere}
 use Rattle.grammar.specs.Texts.{offset}
 use Rattle.ahead.specs.Ahead.{look_ahead, span_end}
@@ -91,13 +92,13 @@ zero-x : (w : List ℕ) → Has zero_x w → length w ≡ 2
 zero-x w (u, v, e, (a, b, f, x, y), z) =
     let i = ap length e ∙ length-append u v in
     let j = ap length f ∙ length-append a b in
-    omega (arith, one_byte _ a x, ap length y, one_byte _ v z)
+    omega (arith, one_byte (byte (code "0")) a x, ap length y, one_byte (one_of "xX") v z)
 
 zero-x-then : (w : List ℕ) → Has (zero_x · lit "_") w → length w ≡ 3
 zero-x-then w (u, v, e, x, (a, b, f, y, z)) =
     let i = ap length e ∙ length-append u v in
     let j = ap length f ∙ length-append a b in
-    omega (arith, zero-x u x, one_byte _ a y, ap length z)
+    omega (arith, zero-x u x, one_byte (byte (code "_")) a y, ap length z)
 
 module _ (p : Profile) where
   near : (c : Class) (at : ℕ) (w : List ℕ) → Long c w → Near at (length w) (look_ahead p c) (answer c at w)
