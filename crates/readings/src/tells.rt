@@ -5,6 +5,7 @@ ghost use Rattle.readings.specs.Arrows.{is_half, is_lexeme, is_settled};
 use crate::reading::{Named, Reading};
 
 // Whether what was read is a lexeme.
+#[tactic(auto, unfolding(crate::specs::Arrows::is_lexeme))]
 pub fn is_lexeme(reading: Reading) -> bool
     ensures { result ≡ is_lexeme reading }
 {
@@ -36,6 +37,7 @@ fn is_half(named: Named) -> bool
 }
 
 // Whether nothing longer is one.
+#[tactic(auto, unfolding(crate::specs::Arrows::is_settled))]
 pub fn is_settled(reading: Reading) -> bool
     ensures { result ≡ is_settled reading }
 {
