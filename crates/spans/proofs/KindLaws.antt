@@ -20,7 +20,7 @@ use Rattle.grammar.specs.Classes.{integer, float, blob, parameter, word, illegal
 use Rattle.grammar.specs.Classes.{underscore, word_after_integer, word_after_fraction, no_exponent, word_after_exponent, no_hexdigit, underscore_after_x}
 use Rattle.grammar.specs.Classes.{hex_underscore, word_after_hex}
 use Rattle.grammar.specs.Answers.{Answer, token, end, refusal, answer}
-use Rattle.grammar.specs.Longest.{Some, Follows, Stands}
+use Rattle.grammar.specs.Longest.{Follows, Stands}
 use Rattle.grammar.proofs.Equal.{is_void, is_within, void, within}
 use Rattle.grammar.proofs.Equivalences.{some-every}
 use Rattle.grammar.proofs.Rest.{rest, rest_has}

@@ -1,21 +1,19 @@
 -- What is known of a span that is a token. Assumes nothing.
-use Prim.Native.Nat.{ℕ, zero, suc, ◌+◌, ◌-◌, ◌≤◌, ◌<◌}
+use Prim.Native.Nat.{ℕ, zero, suc, ◌+◌, ◌≤◌, ◌<◌}
 use native.Mathlib.Omega.{arith}
 use mathlib.Core.Path.{◌≡◌, refl, sym, ◌∙◌, ap, subst}
 use mathlib.Core.Bool.{true, false, true≢false}
 use mathlib.Core.List.{List, [], ◌∷◌}
-use mathlib.Core.Logic.{◌⊎◌, inl, inr, ⊎_elim}
-use types.Run.{OneOf}
-use denote.Enum.Declared.{tag_of}
+use mathlib.Core.Logic.{inl, inr}
 use lib.ListN.{length, get_or, take, drop, length-drop}
 use lib.Seq.{length-take-le, drop-cons}
 use Rattle.keywords.specs.Kinds.{kind}
 use Rattle.grammar.specs.declared.profile.Profile.{Profile}
 use Rattle.grammar.specs.declared.profile.Profile.TheVariants.{Turso, Sqlite}
-use Rattle.grammar.specs.Form.{Form, Has, H, one, many, one_of, lit, ◌·◌, ◌∣◌}
-use Rattle.grammar.specs.Classes.{Class, rules, ◌is◌, malformed, string, quoted_name, integer, blob, opened, dig, hex_integer, x}
-use Rattle.grammar.specs.Answers.{Answer, token, end, refusal, answer, sum, integer_digits}
-use Rattle.grammar.specs.Longest.{Longest, Stands, Gives}
+use Rattle.grammar.specs.Form.{Has, H, one, many, one_of, lit, ◌·◌, ◌∣◌}
+use Rattle.grammar.specs.Classes.{Class, rules, ◌is◌, malformed, string, integer, blob, opened, dig, hex_integer, x}
+use Rattle.grammar.specs.Answers.{Answer, token, end, refusal, sum, integer_digits}
+use Rattle.grammar.specs.Longest.{Stands, Gives}
 use Rattle.grammar.proofs.ClassLaws.{number, only, one-rule}
 use Rattle.grammar.proofs.Tokens.{is_number, Told, told, CountsAs}
 use Rattle.grammar.proofs.Unique.{gives-unique}
@@ -23,7 +21,6 @@ use Rattle.lexer.specs.declared.cursor.Cursor.{Cursor}
 use Rattle.lexer.specs.declared.lexed.Lexed.{Lexed}
 use Rattle.lexer.specs.declared.lexed.Lexed.TheVariants.{Token, End, Refused}
 use Rattle.lexer.specs.Values.{LexesUnder}
-use Rattle.lexer.specs.contracts.lexed.Lexed as Lexed-is
 use Rattle.spans.specs.Spans.{span, is_quote, IsTokenWith, IsToken, IsName}
 use Rattle.spans.proofs.KindLaws.{kind_after, is_literal, class_for, quoted_form, literal-class, name-form}
 
@@ -110,15 +107,11 @@ module _ (p : Profile) (s : List ℕ) (start n : ℕ) where
       counted c e (inr (inl (i, f, g))) = absurd (let z : ◌≡◌ {A = ℕ} 6 7 = ap number (sym e ∙ i) in omega arith)
       counted c e (inr (inr (i, f, g))) = absurd (true≢false (sym (ap is_number e) ∙ i))
 
--- which of the answers of `next` this is: 0 a token, 1 End, 2 a refusal
-abbrev which : Lexed → ℕ
-which r = tag_of Lexed-is.the_type r
-
--- and what it says of the span
+-- what an answer of `next` says of the span
 module _ (p : Profile) (s : List ℕ) (start n k : ℕ) where
-  pub no-token : (r : Lexed) → LexesUnder p s start r → OneOf (1 ∷ 2 ∷ []) (which r) → IsToken p s start n k → ⊥
+  pub no-token : (r : Lexed) → LexesUnder p s start r → ((j from m : ℕ) (next : Cursor) (d u : ℕ) → r ≡ Token j from m next d u → ⊥) → IsToken p s start n k → ⊥
   unfolding LexesUnder IsToken IsTokenWith
-  no-token (Token j from m next d u) l o g = ⊎_elim (λ e. omega arith) (λ e. omega arith) o
+  no-token (Token j from m next d u) l o g = o j from m next d u refl
   no-token (End next) l o (d, (u, g)) = let e = ap kind_after (gives-unique (rules p) s start _ _ l g) in omega arith
   no-token (Refused why from m next) l o (d, (u, g)) = let e = ap kind_after (gives-unique (rules p) s start _ _ l g) in omega arith
 
