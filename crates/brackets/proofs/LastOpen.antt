@@ -68,12 +68,14 @@ Above index (o ∷ os) [] = Shut index os
 Above index (o ∷ os) (u ∷ up) = (o.at ≡ index → ⊥) × (o.kind ≡ u.kind) × Above index os up
 
 above-fewer : (index : ℕ) (os up : Open) → Above index os up → length up < length os
+above-fewer index [] up a = elim a [ ]
 above-fewer index (o ∷ os) [] a = omega arith
 above-fewer index (o ∷ os) (u ∷ up) (other, kinds, a) = let less = above-fewer index os up a in omega arith
 
 -- What closes one closes the other, since the record at `index` stays open.
 above-closing : (index k : ℕ) (ks : List ℕ) (i : ℕ) (os up : Open) (d : ℕ) → index < i → Above index os up → is_closed_by os k ≡ true
     → Leaves index ks i (closing os) d → (is_closed_by up k ≡ true) × Above index (closing os) (closing up)
+above-closing index k ks i [] up d h a t e = elim a [ ]
 above-closing index k ks i (o ∷ os) [] d h a t e = absurd (shut-stays index ks i os d h a e)
 above-closing index k ks i (o ∷ os) (u ∷ up) d h (other, kinds, a) t e = (rw kinds at t, a)
 
@@ -83,6 +85,7 @@ PairedAbove index ks = (i : ℕ) (os : Open) (d j : ℕ) (up : Open) (m : ℕ) �
     → (n : ℕ) × (nesting ks j up m ≡ deepest n)
 
 above-end : (index : ℕ) → PairedAbove index []
+above-end index i [] d j up m h a e = elim a [ ]
 above-end index i (o ∷ os) d j [] m h a e = (m, nesting-end j [] m)
 above-end index i (o ∷ os) d j (u ∷ up) m h (other, kinds, a) e = absurd (other (leaves-end index i o os d e))
 
