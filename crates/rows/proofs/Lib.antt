@@ -1,3 +1,4 @@
+pub mod DigitLaws
 pub mod OutLaws
 pub mod RecordLaws
 pub mod Theorems

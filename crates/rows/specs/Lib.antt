@@ -1,2 +1,4 @@
+pub mod Counts
+pub mod Digits
 pub mod Out
 pub mod Records

@@ -1,26 +1,30 @@
 // What is printed, gathered in a row of bytes that is written whenever it is full: a call of the system for each piece would cost
 // more than the lexing. `at` is how many bytes of the row are filled; what puts something there answers the new number. A number
-// beyond the row counts as no bytes, and a row of no bytes prints nothing.
+// beyond the row counts as no bytes, and a row of no bytes prints nothing. What cannot be written is told on standard error and is
+// lost, so that each call answers as if it were written.
 ghost use Rattle.std.specs.Prelude.{◌≡◌};
-ghost use Rattle.io.specs.Counts.{IsPrefixLen};
+ghost use Rattle.rows.specs.Counts.{IsPrefixLen};
 ghost use Rattle.rows.specs.Out.{Within, Gives, filled_of, one_more, more};
 
-use libc::{STDERR_FILENO, STDOUT_FILENO};
+use std::str;
 
 // Writes the filled bytes, and tells where they cannot be written.
-pub fn flush(row: &[u8], at: usize) {
+pub fn flush(rt: &(impl Print + Eprint), row: &[u8], at: usize) {
     let n = filled(row, at);
-    if !io::write_all(STDOUT_FILENO, &row[..n]) {
-        complain(b"standard output cannot be written\n");
+    if rt.write_all(&row[..n]).is_err() {
+        complain(rt, b"standard output cannot be written\n");
     }
 }
 
-// A program has no exit status, and an error must not look like an answer: it goes to standard error.
-pub fn complain(what: &[u8]) {
-    io::write_all(STDERR_FILENO, what);
+// An error must not look like an answer: it goes to standard error. Bytes that are no text are told in ASCII, by escapes.
+pub fn complain(rt: &impl Eprint, what: &[u8]) {
+    let _told = match str::from_utf8(what) {
+        Ok(text) => rt.eprint(text),
+        Err(_) => rt.eprint(what.escape_ascii()),
+    };
 }
 
-pub fn put_byte(row: &mut [u8], at: usize, b: u8) -> usize
+pub fn put_byte(rt: &(impl Print + Eprint), row: &mut [u8], at: usize, b: u8) -> usize
     ensures gives { Gives (one_more row.old at b) row.new result }
     ensures within { Within row.new result }
 {
@@ -28,7 +32,7 @@ pub fn put_byte(row: &mut [u8], at: usize, b: u8) -> usize
         row[at] = b;
         return at + 1;
     }
-    flush(row, at);
+    flush(rt, row, at);
     if row.len() == 0 {
         return 0;
     }
@@ -36,14 +40,14 @@ pub fn put_byte(row: &mut [u8], at: usize, b: u8) -> usize
     1
 }
 
-pub fn put(row: &mut [u8], at: usize, text: &[u8]) -> usize
+pub fn put(rt: &(impl Print + Eprint), row: &mut [u8], at: usize, text: &[u8]) -> usize
     ensures gives { Gives (more row.old (filled_of row.old at) text.now) row.new result }
     ensures within { Within row.new result }
 {
     let mut end = filled(row, at);
     let mut i = 0;
     while i < text.len() {
-        end = put_byte(row, end, text[i]);
+        end = put_byte(rt, row, end, text[i]);
         i += 1;
     }
     end
