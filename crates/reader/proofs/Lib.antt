@@ -1,4 +1,2 @@
 pub mod ReaderLaws
-pub mod Held
-pub mod Pass
 pub mod Theorems

@@ -5,14 +5,13 @@ use mathlib.Core.Path.{◌≡◌, refl, sym, ◌∙◌, ap, subst}
 use mathlib.Core.List.{List}
 use lib.ListN.{length, take, drop, length-drop, drop_of_length-le}
 use lib.Seq.{take-length}
-use base.Fml.{GName}
-use denote.Ref.{MutBor}
+use denote.Ref.{Bor}
 use Rattle.reader.specs.Reads.{Remains}
 
 -- the part of a text from a place on, at which the same bytes begin as at the offset
-pub part-remains : (text : MutBor (List ℕ)) (offset at : ℕ) (name : GName) → at ≤ length text.now → drop at text.now ≡ drop offset text.now
-    → Remains text offset (record { ref_ptr = (text.ref_ptr.0, at + text.ref_ptr.1); ghost_name = name; now = take (length text.now - at) (drop at text.now) })
-part-remains text offset at name inside e =
+pub part-remains : (text : Bor (List ℕ)) (offset at : ℕ) → at ≤ length text.now → drop at text.now ≡ drop offset text.now
+    → Remains text offset (record { ref_ptr = (text.ref_ptr.0, at + text.ref_ptr.1); now = take (length text.now - at) (drop at text.now) })
+part-remains text offset at inside e =
     record {
       bytes = whole ∙ e;
       block = refl;

@@ -13,7 +13,7 @@ use lexer::lexed::Lexed;
 use lexer::next::next;
 
 // The offset may be any number. A reader keeps its text and its profile as it moves.
-#[derive(Drop)]
+#[derive(Clone, Copy)]
 pub struct Reader<'a> {
     pub text: &'a [u8],
     pub offset: usize,
@@ -21,7 +21,7 @@ pub struct Reader<'a> {
 }
 
 // What `next` gives: the answer, and the reader at the offset that the answer leaves.
-#[derive(Drop)]
+#[derive(Clone, Copy)]
 pub struct Read<'a> {
     pub lexed: Lexed,
     pub reader: Reader<'a>,
@@ -96,7 +96,7 @@ fn peek_at(text: &[u8], offset: usize) -> Peek
 }
 
 // An answer, and the offset that it leaves.
-#[derive(Drop)]
+#[derive(Clone, Copy)]
 struct Moved {
     lexed: Lexed,
     offset: usize,
