@@ -12,6 +12,7 @@ use grammar::profile::Profile;
 use readings::reading::Reading;
 
 // The reading behind one byte more.
+#[tactic(auto, unfolding(readings::specs::Arrows::onward))]
 pub fn step(profile: Profile, reading: Reading, b: u8) -> Reading
     ensures { result ≡ onward profile reading b }
 {
