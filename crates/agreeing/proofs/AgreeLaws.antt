@@ -23,10 +23,10 @@ use Rattle.places.specs.Lines.{line_over, line_of}
 use Rattle.places.proofs.Theorems.{first, goes-along}
 use Rattle.walks.specs.Walk.{Legal, token_of, Always, Passes, Walk}
 use Rattle.walks.proofs.WalkLaws.{legal, is-legal, passes_on, passes-behind, passes_append, run}
-use Rattle.listing.specs.Listing.{record_of, records_of, longest_text}
-use Rattle.listing.specs.Lines.{record_on}
-use Rattle.listing.proofs.KeptLaws.{records-append}
-use Rattle.listing.proofs.LinesLaws.{record-made}
+use Rattle.lists.specs.Lists.{record_of, records_of, longest_text}
+use Rattle.lists.specs.Lines.{record_on}
+use Rattle.lists.proofs.KeptLaws.{records-append}
+use Rattle.lists.proofs.LinesLaws.{record-made}
 use Rattle.agreeing.specs.declared.Checked.{Checked}
 use Rattle.agreeing.specs.declared.Checked.TheVariants.{TooLong, ListDiffers}
 use Rattle.agreeing.specs.declared.step.Place.{Place}

@@ -26,7 +26,7 @@ use Rattle.places.specs.declared.Line.{Line}
 use Rattle.places.specs.Lines.{line_over}
 use Rattle.walks.specs.Walk.{token_of}
 use Rattle.walks.proofs.WalkLaws.{legal, legal_of, is-legal, token-told, end-no-token, refusal-no-token}
-use Rattle.listing.specs.Lines.{record_on}
+use Rattle.lists.specs.Lines.{record_on}
 use Rattle.agreeing.specs.declared.Checked.TheVariants.{Accepted, ListDiffers}
 use Rattle.agreeing.specs.declared.step.Place.{Place}
 use Rattle.agreeing.specs.Agreeing.{same}

@@ -16,7 +16,7 @@ use Rattle.grammar.specs.Longest.{Every}
 use Rattle.places.specs.Places.{newlines, since_newline, line_at, column_at}
 use Rattle.walks.specs.Walk.{Always}
 use Rattle.walks.proofs.Computed.{Stop, nowhere, stop, Test, walk, Decides, Right, from-here, every-so}
-use Rattle.listing.specs.Listing.{records_of, longest_text}
+use Rattle.lists.specs.Lists.{records_of, longest_text}
 use Rattle.agreeing.specs.declared.Checked.{Checked}
 use Rattle.agreeing.specs.Agreeing.{agreeing, verdict, Checking, verdict_of, Checks}
 use Rattle.agreeing.specs.Texts.{CheckRow, checks}

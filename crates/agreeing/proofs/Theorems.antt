@@ -22,10 +22,9 @@ use Rattle.records.specs.Records.{width, read_back, at_front}
 use Rattle.walks.specs.Walk.{Legal, token_of, Always, Passes, Walk}
 use Rattle.walks.proofs.WalkLaws.{legal, is-legal, end-no-token, passes-also, walk-one}
 use Rattle.lists.specs.declared.list.Listed.TheVariants.{End}
-use Rattle.listing.specs.Listing.{records_of, HasRoom, list_answer, longest_text}
-use Rattle.lists.specs.Lists.{Lists}
-use Rattle.listing.proofs.KeptLaws.{records-many}
-use Rattle.listing.proofs.SliceLaws.{front-first}
+use Rattle.lists.specs.Lists.{records_of, HasRoom, list_answer, longest_text, Lists}
+use Rattle.lists.proofs.KeptLaws.{records-many}
+use Rattle.lists.proofs.SliceLaws.{front-first}
 use Rattle.agreeing.specs.declared.Checked.{Checked}
 use Rattle.agreeing.specs.declared.Checked.TheVariants.{Accepted, TooLong, ListDiffers}
 use Rattle.agreeing.specs.Agreeing.{same, agreeing, all_agree, Verdict, accepted, refused, list_differs, verdict, Checking, verdict_of, Checks, DiffersAt}

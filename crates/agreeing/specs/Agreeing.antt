@@ -4,7 +4,7 @@ use Rattle.grammar.specs.Answers.{Answer, is_refusal}
 use Rattle.grammar.specs.Longest.{Source}
 use Rattle.records.specs.declared.Record.{Record}
 use Rattle.walks.specs.Walk.{Always, Walk}
-use Rattle.listing.specs.Listing.{records_of, longest_text}
+use Rattle.lists.specs.Lists.{records_of, longest_text}
 use Rattle.agreeing.specs.declared.Checked.{Checked}
 use Rattle.agreeing.specs.declared.Checked.TheVariants.{Accepted, TooLong, ListDiffers}
 use Rattle.agreeing.specs.Refusals.{check_refusal}

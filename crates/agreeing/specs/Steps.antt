@@ -7,7 +7,7 @@ use Rattle.lexer.specs.Eaten.{cursor}
 use Rattle.records.specs.declared.Record.{Record}
 use Rattle.places.specs.Lines.{line_over}
 use Rattle.walks.specs.Walk.{Legal, token_of}
-use Rattle.listing.specs.Lines.{record_on}
+use Rattle.lists.specs.Lines.{record_on}
 use Rattle.agreeing.specs.declared.Checked.{Checked}
 use Rattle.agreeing.specs.declared.step.Place.{Place}
 use Rattle.agreeing.specs.Agreeing.{Verdict, accepted, list_differs, verdict_of}

@@ -2,7 +2,7 @@
 ghost use Rattle.std.specs.Prelude.{◌≡◌, ◌+◌, ◌-◌};
 ghost use Rattle.grammar.specs.Longest.{source};
 ghost use Rattle.records.specs.Records.{record_of};
-ghost use Rattle.listing.specs.Lines.{record_on};
+ghost use Rattle.lists.specs.Lines.{record_on};
 ghost use Rattle.agreeing.specs.Agreeing.{same};
 ghost use Rattle.agreeing.specs.Steps.{beginning, Steps, Finishes};
 

@@ -8,7 +8,7 @@ use Rattle.cuts.specs.Cuts as Cuts
 use Rattle.lists.specs.declared.list.Listed.{Listed}
 use Rattle.lists.specs.declared.part.Part.{Part}
 use Rattle.lists.specs.Lists.{answer_of, records_in}
-use Rattle.listing.specs.Parting.{PartAnswer, given, paused}
+use Rattle.lists.specs.Parts.{PartAnswer, given, paused}
 use Rattle.lists.specs.Parts as Parts
 use Rattle.codes.specs.declared.answers.Numbers.{Numbers}
 use Rattle.codes.specs.Numbers.{five, of_answer, kind_given}

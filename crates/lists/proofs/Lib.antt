@@ -1,6 +1,11 @@
+pub mod NewlineLaws
+pub mod LinesLaws
+pub mod KeptLaws
 pub mod PassLaws
 pub mod ListLaws
 pub mod PartLaws
+pub mod GaplessLaws
+pub mod SliceLaws
 pub mod Theorems
 pub mod PartTheorems
 pub mod TextLaws

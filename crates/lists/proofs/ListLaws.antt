@@ -16,15 +16,14 @@ use Rattle.lexer.specs.declared.lexed.Refusal.{Refusal}
 use Rattle.lexer.specs.Values.{number_of}
 use Rattle.walks.specs.Walk.{Legal, token_of, Goes}
 use Rattle.walks.proofs.WalkLaws.{passes-also, passes_count}
-use Rattle.listing.specs.Listing.{records_of, HasRoom, list_full, list_answer, longest_text, Listing}
-use Rattle.listing.specs.Parting.{kept, Allowed}
-use Rattle.listing.proofs.KeptLaws.{kept-every}
 use Rattle.lists.specs.declared.list.Listed.TheVariants.{End, Refused, TooLong, ListFull}
 use Rattle.lists.specs.declared.pass.There.{There}
 use Rattle.lists.specs.declared.pass.There.TheVariants.{Lexeme, End as AtEnd, Refused as AtRefusal}
 use Rattle.lists.specs.declared.pass.Stop.{Stop}
-use Rattle.lists.specs.Lists.{Lists}
+use Rattle.lists.specs.Lists.{records_of, HasRoom, list_full, list_answer, longest_text, Listing, Lists}
+use Rattle.lists.specs.Parts.{kept, Allowed}
 use Rattle.lists.specs.Passing.{from_kind, Meets, Passing}
+use Rattle.lists.proofs.KeptLaws.{kept-every}
 
 -- the answer by what the walk met
 full-met : (next at : ℕ) (a : Answer) → Meets Lexeme next at a → list_full next ≡ list_answer at a

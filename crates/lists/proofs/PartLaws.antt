@@ -16,13 +16,12 @@ use Rattle.lexer.specs.declared.cursor.Cursor.{Cursor}
 use Rattle.lexer.specs.declared.lexed.Refusal.{Refusal}
 use Rattle.lexer.specs.Values.{number_of}
 use Rattle.walks.specs.Walk.{not_none}
-use Rattle.listing.specs.Listing.{list_full, longest_text}
-use Rattle.listing.specs.Parting.{Keeps, not_blank, PartAnswer, given, paused_at, part_answer, Parting}
 use Rattle.lists.specs.declared.part.Part.TheVariants.{End, Refused, TooLong, Paused, ListFull}
 use Rattle.lists.specs.declared.pass.There.{There}
 use Rattle.lists.specs.declared.pass.There.TheVariants.{Lexeme, End as AtEnd, Refused as AtRefusal}
 use Rattle.lists.specs.declared.pass.Stop.{Stop}
-use Rattle.lists.specs.Parts.{Parts}
+use Rattle.lists.specs.Lists.{list_full, longest_text}
+use Rattle.lists.specs.Parts.{Keeps, not_blank, PartAnswer, given, paused_at, part_answer, Parting, Parts}
 use Rattle.lists.specs.Passing.{from_kind, Meets, Passing}
 
 -- the kinds from the one behind TK_NONE on are all but TK_NONE

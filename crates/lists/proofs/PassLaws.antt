@@ -22,15 +22,15 @@ use Rattle.lexer.specs.declared.lexed.Lexed.TheVariants.{Token, End as Over, Ref
 use Rattle.lexer.specs.Values.{LexesUnder, values_of, number_of}
 use Rattle.walks.specs.Walk.{Legal, token_of, Goes, Passes, Walk}
 use Rattle.walks.proofs.WalkLaws.{legal, legal_of, token-told, token-passes, passes_count, end-no-token, refusal-no-token}
-use Rattle.listing.specs.Listing.{record_of, records_of, longest_text}
-use Rattle.listing.specs.Parting.{kept, Allowed}
-use Rattle.listing.specs.Lines.{record_on, line_behind}
-use Rattle.listing.proofs.LinesLaws.{behind-token, record-made}
-use Rattle.listing.proofs.KeptLaws.{records-append, records-many, kept-few, kept-one, kept-none}
 use Rattle.lists.specs.declared.pass.There.{There}
 use Rattle.lists.specs.declared.pass.There.TheVariants.{Lexeme, End, Refused}
 use Rattle.lists.specs.declared.pass.Stop.{Stop}
+use Rattle.lists.specs.Lists.{record_of, records_of, longest_text}
+use Rattle.lists.specs.Parts.{kept, Allowed}
+use Rattle.lists.specs.Lines.{record_on, line_behind}
 use Rattle.lists.specs.Passing.{stop_of, from_kind, Meets, Passing}
+use Rattle.lists.proofs.LinesLaws.{behind-token, record-made}
+use Rattle.lists.proofs.KeptLaws.{records-append, records-many, kept-few, kept-one, kept-none}
 
 -- the records of the lexemes that get one stand at the front of the list, and fill i numbers; each lexeme passed has cost one of the
 -- allowance; `here` is the line at the place reached

@@ -2,11 +2,11 @@
 -- two answers that meet the contract, and two lists, are equal. `reaches-the-end`: where List is not refused, its lexemes lead to the text's
 -- length. `too_long`, `past_end`: the refusals that come first. `one-run`: every text, of any length, has one run of lexemes from every
 -- offset, up to its end or the first malformed one. The tables of texts: TextLaws.antt. Assumes nothing.
-use Prim.Native.Nat.{ℕ, ◌≤◌, ◌<◌}
+use Prim.Native.Nat.{ℕ, ◌*◌, ◌≤◌, ◌<◌}
 use native.Mathlib.Omega.{arith}
 use mathlib.Core.Path.{◌≡◌, refl, sym, ◌∙◌, ap}
-use mathlib.Core.Bool.{false, cond, true≢false}
-use mathlib.Core.List.{List, []}
+use mathlib.Core.Bool.{true, false, cond, true≢false}
+use mathlib.Core.List.{List, [], ◌++◌}
 use mathlib.Core.Logic.{inl, inr}
 use lib.Dec.{eqb}
 use lib.ListN.{length, take, drop}
@@ -20,17 +20,18 @@ use Rattle.lexer.specs.declared.lexed.Refusal.TheVariants.{BadExponentPart, Malf
 use Rattle.lexer.specs.Eaten.{cursor}
 use Rattle.lexer.specs.Values.{number_of}
 use Rattle.lexer.proofs.Theorems.{refusal_of, refusal-back}
-use Rattle.records.specs.Records.{numbers_of_all}
-use Rattle.walks.specs.Walk.{Legal, Passes, Walk}
-use Rattle.walks.proofs.WalkLaws.{refusal-no-token}
-use Rattle.listing.specs.Refusals.{list_refusal}
-use Rattle.listing.specs.Listing.{records_of, HasRoom, longest_text, Listing}
-use Rattle.listing.specs.Gapless.{Ends, Gapless}
-use Rattle.listing.proofs.GaplessLaws.{gapless}
-use Rattle.listing.proofs.Theorems.{listing-unique}
+use Rattle.records.specs.declared.Record.{Record}
+use Rattle.records.specs.Records.{width, numbers_of_all, read_back, at_front}
+use Rattle.records.proofs.Theorems.{front_read}
+use Rattle.walks.specs.Walk.{Legal, Always, Passes, Walk}
+use Rattle.walks.proofs.WalkLaws.{refusal-no-token, walk-one, run}
 use Rattle.lists.specs.declared.list.Listed.{Listed}
 use Rattle.lists.specs.declared.list.Listed.TheVariants.{End, Refused, TooLong, ListFull}
-use Rattle.lists.specs.Lists.{answer_of, records_in, Lists}
+use Rattle.lists.specs.Refusals.{list_refusal}
+use Rattle.lists.specs.Lists.{records_of, HasRoom, list_answer, longest_text, Listing, answer_of, records_in, Lists}
+use Rattle.lists.specs.Gapless.{Follow, Each, RunEnds, Ends, Gapless}
+use Rattle.lists.proofs.KeptLaws.{records-many}
+use Rattle.lists.proofs.GaplessLaws.{passes-follow, passes-each, always-ends, gapless}
 
 -- What List's lexemes are.
 pub gapless-run-of-longest-in-one-class : (s : Source) (from : ℕ) (old : List ℕ) (r : Listed) (new : List ℕ) → length s.text ≤ longest_text
@@ -77,6 +78,15 @@ same-values : (r q : Listed) → answer_of r ≡ answer_of q → records_in r �
 same-values r q a m =
     sym (listed_back r) ∙ ap (λ (b : Answer). listed_of b (records_in r)) a ∙ ap (listed_of (answer_of q)) m ∙ listed_back q
 
+pub listing-unique : (s : Source) (from : ℕ) (old : List ℕ) (a b : Answer) (m n : ℕ) (new new' : List ℕ)
+    → Listing s from old a m new → Listing s from old b n new' → (a ≡ b) × (m ≡ n) × (new ≡ new')
+listing-unique s from old a b m n new new' x y =
+    let (p, q, t) = walk-one (HasRoom (length old)) s from x.walk y.walk in (
+      x.answers ∙ ap (λ (at : ℕ). list_answer at x.walk.there) q ∙ ap (list_answer y.walk.to) t ∙ sym y.answers,
+      x.counted ∙ ap length p ∙ sym y.counted,
+      x.written ∙ ap (λ (l : List Legal). at_front (records_of s.text l) old) p ∙ sym y.written,
+    )
+
 -- The contract of `list` leaves one answer and one list.
 pub list-unique : (s : Source) (from : ℕ) (old : List ℕ) (r q : Listed) (new new' : List ℕ)
     → Lists s from old r new → Lists s from old q new' → (r ≡ q) × (new ≡ new')
@@ -87,6 +97,14 @@ list-unique s from old r q new new' (inr (h, x)) (inl (k, u, v, w)) = absurd (om
 list-unique s from old r q new new' (inr (h, x)) (inr (k, y)) =
     let (a, m, e) = listing-unique s from old (answer_of r) (answer_of q) (records_in r) (records_in q) new new' x y in
     (same-values r q a m, e)
+
+-- Read back, the list has the walk's records, one for each lexeme passed, and behind them those in what it held.
+pub list-read-back : (s : Source) (from : ℕ) (old : List ℕ) (a : Answer) (n : ℕ) (new : List ℕ) (x : Listing s from old a n new)
+    → (rs : List Record) × (rs ≡ records_of s.text x.walk.passed) × (length rs ≡ n) × (read_back new ≡ rs ++ read_back (drop (width * n) old))
+list-read-back s from old a n new x =
+    let rs = records_of s.text x.walk.passed in
+    let many : length rs ≡ n = records-many s.text x.walk.passed ∙ sym x.counted in
+    (rs, refl, many, ap read_back x.written ∙ front_read rs old ∙ ap (λ (m : ℕ). rs ++ read_back (drop (width * m) old)) many)
 
 -- A text that is too long is refused first; the list stays as it was.
 pub too_long : (s : Source) (from : ℕ) (old : List ℕ) (r : Listed) (new : List ℕ) → longest_text < length s.text → Lists s from old r new
@@ -133,3 +151,20 @@ reaches-the-end s from old n next new (inr (h, x)) =
     let g = gapless s from old (end next.at) n new x in
     let (o, e) = ends_so s (length old) g.lexemes g.to next.at g.ends in
     (o ∙ e, g, e)
+
+-- Every text, of any length, has one run of lexemes from every offset. They follow one another, each the longest and in one class, and they
+-- end past the end, at the end, or at a malformed lexeme, whose class gives the refusal.
+pub one-run : (s : Source) (from : ℕ)
+    → (w : Walk Always s from) ×
+    Follow from w.passed w.to ×
+    Each s w.passed ×
+    RunEnds s w.to w.there ×
+    ((v : Walk Always s from) → (v.passed ≡ w.passed) × (v.to ≡ w.to) × (v.there ≡ w.there))
+one-run s from =
+    let w = run s from in (
+      w,
+      passes-follow Always s [] from w.passed w.to w.passes,
+      passes-each Always s [] from w.passed w.to w.passes,
+      always-ends s from w,
+      λ v. walk-one Always s from v w,
+    )

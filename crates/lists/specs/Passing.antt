@@ -6,11 +6,11 @@ use Rattle.lexer.specs.declared.cursor.Cursor.{Cursor}
 use Rattle.lexer.specs.Values.{number_of}
 use Rattle.records.specs.Records.{width, at_front}
 use Rattle.walks.specs.Walk.{Walk}
-use Rattle.listing.specs.Listing.{records_of}
-use Rattle.listing.specs.Parting.{Keeps, kept, Allowed}
 use Rattle.lists.specs.declared.pass.There.{There}
 use Rattle.lists.specs.declared.pass.There.TheVariants.{Lexeme, End, Refused}
 use Rattle.lists.specs.declared.pass.Stop.{Stop}
+use Rattle.lists.specs.Lists.{records_of}
+use Rattle.lists.specs.Parts.{Keeps, kept, Allowed}
 
 abbrev pub stop_of : ℕ → ℕ → Cursor → There → Stop
 stop_of filled left next there = record { filled = filled; left = left; next = next; there = there }

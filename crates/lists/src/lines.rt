@@ -1,7 +1,7 @@
 // A token's record, and the line behind a token.
 ghost use Rattle.std.specs.Prelude.{◌≡◌, ◌+◌, ◌≤◌, ◌<◌, length as len};
-ghost use Rattle.listing.specs.Listing.{longest_text};
-ghost use Rattle.listing.specs.Lines.{record_on, has_no_newline, line_behind};
+ghost use Rattle.lists.specs.Lists.{longest_text};
+ghost use Rattle.lists.specs.Lines.{record_on, has_no_newline, line_behind};
 
 use keywords::kinds::TK_ID;
 use places::{Line, NEWLINE, line_behind};

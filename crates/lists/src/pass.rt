@@ -1,7 +1,7 @@
 // The walk that writes records, for `list` and `list_part`.
 ghost use Rattle.std.specs.Prelude.{◌≡◌, ◌≤◌, length as len};
 ghost use Rattle.grammar.specs.Longest.{source};
-ghost use Rattle.listing.specs.Listing.{longest_text};
+ghost use Rattle.lists.specs.Lists.{longest_text};
 ghost use Rattle.lists.specs.Passing.{Passing, from_kind, stop_of};
 
 use crate::lines::{line_behind_token, record_of};

@@ -68,7 +68,7 @@ use denote.Triple.Clauses.{ensured, lasts}
 use Rattle.grammar.specs.declared.profile.Profile.{Profile}
 use Rattle.grammar.specs.Longest.{Source, source}
 use Rattle.records.specs.declared.Record.{Record}
-use Rattle.listing.specs.Listing.{longest_text}
+use Rattle.lists.specs.Lists.{longest_text}
 use Rattle.agreeing.specs.declared.Checked.{Checked}
 use Rattle.agreeing.specs.declared.Checked.TheVariants.{TooLong, ListDiffers}
 use Rattle.agreeing.specs.declared.step.Place.{Place}

@@ -1,7 +1,7 @@
 -- `lists::lines::line_behind_token` meets its contract. Assumes nothing.
 use mathlib.Core.Path.{sym, ◌∙◌}
+use Rattle.lists.proofs.LinesLaws.{one-clear, one-newline, more-clear, more_bytes}
 use borrow.Author.Rules.{rules}
-use Rattle.listing.proofs.LinesLaws.{one-clear, one-newline, more-clear, more_bytes}
 use Rattle.lists.proofs.lines.line_behind_token.Statement.{statement}
 use Rattle.lists.proofs.lines.line_behind_token.Tie as tie
 

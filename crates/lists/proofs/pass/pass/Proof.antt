@@ -12,7 +12,7 @@ use Rattle.grammar.specs.Longest.{source}
 use Rattle.lexer.specs.Values.{LexesUnder}
 use Rattle.lexer.proofs.Moves.{moves}
 use Rattle.walks.proofs.WalkLaws.{token-told}
-use Rattle.listing.specs.Listing.{longest_text}
+use Rattle.lists.specs.Lists.{longest_text}
 use Rattle.lists.proofs.PassLaws.{Inside, begins, same-long, asked, few, record-on, blank-on, full-same, full-passing}
 use Rattle.lists.proofs.PassLaws.{spent-passing, end-passing, refusal-passing}
 use Rattle.lists.proofs.pass.pass.Statement.{statement}

@@ -18,10 +18,10 @@ use Rattle.grammar.specs.Longest.{Source, Next}
 use Rattle.grammar.proofs.Tokens.{told, whole-token}
 use Rattle.walks.specs.Walk.{Legal, token_of, Goes, Always, Passes, Walk}
 use Rattle.walks.proofs.WalkLaws.{legal, is-legal, end-no-token, refusal-no-token, passes-most}
-use Rattle.listing.specs.Refusals.{list_refusal}
-use Rattle.listing.specs.Listing.{HasRoom, list_full, list_answer, Listing}
-use Rattle.listing.specs.Parting.{not_blank, Allowed, PartAnswer, part_answer, Parting}
-use Rattle.listing.specs.Gapless.{InOneClass, Follow, Each, RunEnds, Ends, Gapless, SliceEnds, GaplessSlice}
+use Rattle.lists.specs.Refusals.{list_refusal}
+use Rattle.lists.specs.Lists.{HasRoom, list_full, list_answer, Listing}
+use Rattle.lists.specs.Parts.{not_blank, Allowed, PartAnswer, part_answer, Parting}
+use Rattle.lists.specs.Gapless.{InOneClass, Follow, Each, RunEnds, Ends, Gapless, SliceEnds, GaplessSlice}
 
 module _ (goes : Goes) (s : Source) where
   in-one-class : (at : ℕ) (t : Legal) → Next s at (token_of t) → InOneClass false s at t.length (token_of t)

@@ -19,9 +19,9 @@ use Rattle.grammar.specs.Answers.{token}
 use Rattle.grammar.specs.Longest.{Source, Next}
 use Rattle.grammar.proofs.Tokens.{told}
 use Rattle.walks.proofs.WalkLaws.{legal}
-use Rattle.listing.specs.Listing.{record_of, longest_text}
-use Rattle.listing.specs.Lines.{record_on, has_no_newline, is_clear, line_behind}
-use Rattle.listing.proofs.NewlineLaws.{no-newline, one_byte}
+use Rattle.lists.specs.Lists.{record_of, longest_text}
+use Rattle.lists.specs.Lines.{record_on, has_no_newline, is_clear, line_behind}
+use Rattle.lists.proofs.NewlineLaws.{no-newline, one_byte}
 
 -- what `line_behind_token` gives, by its tests
 module _ (s : List ℕ) (k start n : ℕ) (line : Line) where

@@ -7,8 +7,8 @@ use Rattle.grammar.specs.Answers.{Answer, end, past_end, answer}
 use Rattle.grammar.specs.Longest.{Every, Longest, Source}
 use Rattle.records.specs.Records.{at_front}
 use Rattle.walks.specs.Walk.{Legal, token_of}
-use Rattle.listing.specs.Listing.{records_of, list_full, HasRoom}
-use Rattle.listing.specs.Parting.{PartAnswer, given, paused_at, not_blank, kept}
+use Rattle.lists.specs.Lists.{records_of, list_full, HasRoom}
+use Rattle.lists.specs.Parts.{PartAnswer, given, paused_at, not_blank, kept}
 
 -- the first n bytes at a place are the longest opening that stands in any class; they stand in exactly one, which is malformed or not, and
 -- that class answers a

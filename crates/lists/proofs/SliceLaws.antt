@@ -16,10 +16,10 @@ use Rattle.records.specs.Records.{read_back, at_front}
 use Rattle.records.proofs.Theorems.{front_read}
 use Rattle.walks.specs.Walk.{Legal, token_of, Goes, Always, Passes, Walk}
 use Rattle.walks.proofs.WalkLaws.{legal, is-legal, end-no-token, refusal-no-token, passes-also, passes-behind, passes_append, passes-most}
-use Rattle.listing.specs.Listing.{record_of, records_of, HasRoom, list_full, list_answer, Listing}
-use Rattle.listing.specs.Parting.{not_blank, kept, Allowed, PartAnswer, given, paused_at, part_answer, Parting}
-use Rattle.listing.specs.Slices.{Slice, From, Sliced, total, read_first, read_all, Full, without_none}
-use Rattle.listing.proofs.KeptLaws.{records-append, records-many, kept_append}
+use Rattle.lists.specs.Lists.{record_of, records_of, HasRoom, list_full, list_answer, Listing}
+use Rattle.lists.specs.Parts.{not_blank, kept, Allowed, PartAnswer, given, paused_at, part_answer, Parting}
+use Rattle.lists.specs.Slices.{Slice, From, Sliced, total, read_first, read_all, Full, without_none}
+use Rattle.lists.proofs.KeptLaws.{records-append, records-many, kept_append}
 
 -- it passes so many lexemes
 abbrev pub AtMost : ℕ → Goes

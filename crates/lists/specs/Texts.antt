@@ -7,7 +7,7 @@ use Rattle.grammar.specs.declared.profile.Profile.TheVariants.{Turso, Sqlite}
 use Rattle.grammar.specs.Answers.{Answer, end, refusal}
 use Rattle.grammar.specs.Longest.{Source, source}
 use Rattle.records.specs.Records.{record_of, numbers_of}
-use Rattle.listing.specs.Parting.{PartAnswer, given, paused}
+use Rattle.lists.specs.Parts.{PartAnswer, given, paused}
 
 -- a list of so many numbers 9 is lent
 pub record ListRow : Type 0 where

@@ -8,8 +8,8 @@ use lib.ListN.{length}
 use Rattle.keywords.proofs.Logic.{split}
 use Rattle.records.specs.declared.Record.{Record}
 use Rattle.walks.specs.Walk.{Legal}
-use Rattle.listing.specs.Listing.{record_of, records_of}
-use Rattle.listing.specs.Parting.{Keeps, kept}
+use Rattle.lists.specs.Lists.{record_of, records_of}
+use Rattle.lists.specs.Parts.{Keeps, kept}
 
 pub records-append : (s : List ℕ) (l m : List Legal) → records_of s (l ++ m) ≡ records_of s l ++ records_of s m
 unfolding records_of

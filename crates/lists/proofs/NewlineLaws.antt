@@ -24,7 +24,7 @@ use Rattle.grammar.specs.Longest.{Follows, Gives}
 use Rattle.grammar.proofs.Equal.{is_within, within}
 use Rattle.grammar.proofs.Equivalences.{or-iff, some-every}
 use Rattle.grammar.proofs.Tokens.{told}
-use Rattle.listing.specs.Lines.{backtick, has_no_newline}
+use Rattle.lists.specs.Lines.{backtick, has_no_newline}
 
 -- A form has only texts without a 0A, since none of its sets holds one.
 abbrev one_line : Form → Bool

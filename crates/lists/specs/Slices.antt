@@ -5,8 +5,8 @@ use Rattle.grammar.specs.Longest.{Source}
 use Rattle.records.specs.declared.Record.{Record}
 use Rattle.records.specs.Records.{read_back}
 use Rattle.walks.specs.Walk.{not_none}
-use Rattle.listing.specs.Listing.{list_full}
-use Rattle.listing.specs.Parting.{PartAnswer, given, paused_at, Parting}
+use Rattle.lists.specs.Lists.{list_full}
+use Rattle.lists.specs.Parts.{PartAnswer, given, paused_at, Parting}
 
 -- a call, with what it was given and what it gave
 pub record Slice : Type 0 where

@@ -1,8 +1,0 @@
-pub mod NewlineLaws
-pub mod LinesLaws
-pub mod KeptLaws
-pub mod GaplessLaws
-pub mod SliceLaws
-pub mod Theorems
-pub mod PartTheorems
-pub mod TextLaws
