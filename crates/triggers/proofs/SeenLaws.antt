@@ -3,8 +3,6 @@ use Prim.Native.Nat.{ℕ}
 use mathlib.Core.Path.{◌≡◌, refl, sym, ◌∙◌, ap, subst}
 use mathlib.Core.Bool.{Bool, true, false, not, ◌&&◌, ◌||◌, true≢false}
 use mathlib.Core.List.{List, [], ◌∷◌, ◌++◌, append_assoc, append-nil, reverse-append}
-use types.Run.{OneOf, miss}
-use denote.Enum.Declared.{tag_of}
 use lib.Dec.{eqb}
 use Rattle.keywords.specs.Kinds.{kind}
 use Rattle.keywords.proofs.Logic.{split}
@@ -12,7 +10,6 @@ use Rattle.triggers.specs.declared.seen.Seen.{Seen}
 use Rattle.triggers.specs.declared.seen.Seen.TheVariants.{Nothing, Explain, Query, Plan, Create, Temp, Body, Semi, End, Other}
 use Rattle.triggers.specs.Triggers.{counted}
 use Rattle.triggers.specs.Seen.{begins, begins_one, heads, wanting, semi_last, semi_end_last, Lastly, Tells, Follows, SaysEnd, body_with}
-use Rattle.triggers.specs.contracts.seen.Seen as Seen-is
 use Rattle.triggers.proofs.EndLaws.{same, apart, ends_now, ends_now_lem}
 
 -- TK_NONE does not count; every other kind does
@@ -126,18 +123,14 @@ says-end seen k semi r e kinds t =
     let same = tells-ends seen kinds t ∙ e in
     (λ f. (semi, (ends_now_lem kinds).0 (same ∙ f)), λ x. sym same ∙ (ends_now_lem kinds).1 x.1)
 
--- the numbers of all but Body and Semi
-abbrev others : List ℕ
-others = 0 ∷ 1 ∷ 2 ∷ 3 ∷ 4 ∷ 5 ∷ 8 ∷ 9 ∷ []
-
-pub ends-others : (s : Seen) → OneOf others (tag_of Seen-is.the_type s) → ends_in s ≡ true
-ends-others Nothing x = refl
-ends-others Explain x = refl
-ends-others Query x = refl
-ends-others Plan x = refl
-ends-others Create x = refl
-ends-others Temp x = refl
-ends-others Body x = absurd (miss others 6 tt x)
-ends-others Semi x = absurd (miss others 7 tt x)
-ends-others End x = refl
-ends-others Other x = refl
+pub ends-others : (s : Seen) → (s ≡ Body → ⊥) → (s ≡ Semi → ⊥) → ends_in s ≡ true
+ends-others Nothing x y = refl
+ends-others Explain x y = refl
+ends-others Query x y = refl
+ends-others Plan x y = refl
+ends-others Create x y = refl
+ends-others Temp x y = refl
+ends-others Body x y = absurd (x refl)
+ends-others Semi x y = absurd (y refl)
+ends-others End x y = refl
+ends-others Other x y = refl
