@@ -1,12 +1,7 @@
 -- A record beside what `next` gives at a place, and what `next` gives behind the last record. Assumes nothing.
 use Prim.Native.Nat.{ℕ, ◌+◌, ◌-◌}
-use native.Mathlib.Omega.{arith}
 use mathlib.Core.Path.{◌≡◌, refl, sym, ◌∙◌, ap, subst}
 use mathlib.Core.Bool.{Bool, true, false, true≢false}
-use mathlib.Core.List.{[], ◌∷◌}
-use mathlib.Core.Logic.{⊎_elim}
-use types.Run.{OneOf}
-use denote.Enum.Declared.{tag_of}
 use lib.Dec.{eqb}
 use lib.Seq.{slice}
 use borrow.Author.Tests.{eq-eqb, ne_eqb}
@@ -19,7 +14,6 @@ use Rattle.lexer.specs.declared.cursor.Cursor.{Cursor}
 use Rattle.lexer.specs.declared.lexed.Lexed.{Lexed}
 use Rattle.lexer.specs.declared.lexed.Lexed.TheVariants.{Token, End as Over, Refused as Bad}
 use Rattle.lexer.specs.Values.{LexesUnder, number_of}
-use Rattle.lexer.specs.contracts.lexed.Lexed as Lexed-is
 use Rattle.records.specs.declared.Record.{Record}
 use Rattle.records.specs.Records.{record_of}
 use Rattle.places.specs.declared.Line.{Line}
@@ -41,10 +35,10 @@ away next line = record { agrees = false; next = next; line = line }
 
 module _ (s : Source) (p : Place) (r : Record) where
   -- no lexeme is there
-  pub none-there : (there : Lexed) → LexesUnder s.profile s.text p.next.at there → OneOf (1 ∷ 2 ∷ []) (tag_of Lexed-is.the_type there)
-      → Steps s p r (away p.next p.line)
+  pub none-there : (there : Lexed) → LexesUnder s.profile s.text p.next.at there
+      → ((k start m : ℕ) (next : Cursor) (d u : ℕ) → there ≡ Token k start m next d u → ⊥) → Steps s p r (away p.next p.line)
   unfolding Steps LexesUnder
-  none-there (Token k start n next d u) g other t h e = ⊎_elim (λ e. omega arith) (λ e. omega arith) other
+  none-there (Token k start n next d u) g other t h e = other k start n next d u refl
   none-there (Over next) g other t h e =
       end-no-token next.at t (gives-unique (rules s.profile) s.text p.next.at (end next.at) (token_of t) g h)
   none-there (Bad why start n next) g other t h e =
@@ -79,11 +73,11 @@ module _ (s : Source) (at count : ℕ) where
   unfolding LexesUnder
   finishes-end next g = record { there = end next.at; gives = g; answers = refl }
 
-  pub finishes-early : (there : Lexed) → LexesUnder s.profile s.text at there → OneOf (0 ∷ 2 ∷ []) (tag_of Lexed-is.the_type there)
+  pub finishes-early : (there : Lexed) → LexesUnder s.profile s.text at there → ((next : Cursor) → there ≡ Over next → ⊥)
       → Finishes s at count (ListDiffers count)
   unfolding LexesUnder
   finishes-early (Token k start m next d u) g other = record { there = token k start m next.at d u; gives = g; answers = refl }
-  finishes-early (Over next) g other = absurd (⊎_elim (λ e. omega arith) (λ e. omega arith) other)
+  finishes-early (Over next) g other = absurd (other next refl)
   finishes-early (Bad why start m next) g other = record { there = refusal (number_of why) start m next.at; gives = g; answers = refl }
 
 -- five comparisons, one behind the other: the first number that differs, or the last

@@ -12,7 +12,7 @@ use lists::list::LONGEST_TEXT;
 use records::Record;
 
 // `ListDiffers` is at the first record that differs, is surplus or is missing.
-#[derive(Drop)]
+#[derive(Clone, Copy)]
 pub enum Checked {
     Accepted,
     TooLong,

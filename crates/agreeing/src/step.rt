@@ -14,7 +14,7 @@ use lexer::next::next;
 use places::{FIRST, Line, line_behind};
 
 // Whether all records so far agree, and where the lexeme of the last one ends: the cursor and its line.
-#[derive(Drop)]
+#[derive(Clone, Copy)]
 pub(crate) struct Place {
     pub(crate) agrees: bool,
     pub(crate) next: Cursor,

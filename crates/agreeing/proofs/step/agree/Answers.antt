@@ -1,0 +1,25 @@
+-- `agreeing::step::agree` meets its contract. Assumes nothing.
+use mathlib.Core.Path.{◌∙◌, sym}
+use Rattle.grammar.specs.Longest.{source}
+use Rattle.records.specs.Records.{record_of}
+use Rattle.agreeing.proofs.StepLaws.{none-there, its_own, not-its-own}
+use Rattle.agreeing.proofs.step.agree.Goals as goal
+
+pub returns-in_default : goal.returns-in_default
+returns-in_default c =
+    let a = c.args in
+    let next = c.next-there in
+    none-there (source a.profile a.text.now) a.place (record_of a.kind a.start a.length a.line a.column) next.result next.ensures c.in_default.not-Token
+
+pub returns-then-is_record : goal.returns-then-is_record
+returns-then-is_record c =
+    let line = c.line_behind in
+    let a = c.args in
+    its_own (source a.profile a.text.now) a.place (record_of a.kind a.start a.length a.line a.column) _ _ _ _ _ _ c.in-Token.ensures
+    (sym c.if-is_record.true ∙ c.is_record.ensures) line.result line.ensures
+
+pub returns : goal.returns
+returns c =
+    let a = c.args in
+    not-its-own (source a.profile a.text.now) a.place (record_of a.kind a.start a.length a.line a.column) _ _ _ _ _ _ c.in-Token.ensures
+    (sym c.if-is_record.false ∙ c.is_record.ensures)
