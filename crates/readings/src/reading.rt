@@ -1,6 +1,6 @@
 // A reading is named for what was read since the lexeme's start. `Dead`: no lexeme begins with it. `Whole`: a lexeme, and nothing longer
 // that begins with it is one. `Start`: nothing yet.
-#[derive(Drop)]
+#[derive(Clone, Copy)]
 pub enum Reading {
     Dead,
     Whole,
@@ -13,7 +13,7 @@ pub enum Reading {
 }
 
 // Runs of bytes, and comments. `X`: an `x`, with which a blob may begin. `BlockStar`: a block comment that ends in `*`.
-#[derive(Drop)]
+#[derive(Clone, Copy)]
 pub enum Run {
     Blanks,
     Word,
@@ -25,7 +25,7 @@ pub enum Run {
 }
 
 // Operators that can still grow. `Equals`: `=` or `!`. `Pointer`: `->`.
-#[derive(Drop)]
+#[derive(Clone, Copy)]
 pub enum Operator {
     Equals,
     Ampersand,
@@ -38,7 +38,7 @@ pub enum Operator {
 }
 
 // `..Twice`: the quote again, which closes unless a third one follows.
-#[derive(Drop)]
+#[derive(Clone, Copy)]
 pub enum Quoted {
     Quote,
     QuoteTwice,
@@ -52,7 +52,7 @@ pub enum Quoted {
 
 // `Sigil`: what a parameter begins with, and pairs of colons. `SigilColon`, `NameColon`: one colon of a pair behind it. `Paren`: a name
 // and a `(` that is not closed. `Question`: `?` and digits.
-#[derive(Drop)]
+#[derive(Clone, Copy)]
 pub enum Named {
     Sigil,
     SigilColon,
@@ -66,7 +66,7 @@ pub enum Named {
 
 // `Dot`: a dot, or a fraction and an underscore; behind either only a digit goes on. `ExponentUnderscore`: also `_` behind `e`, where the
 // profile has it.
-#[derive(Drop)]
+#[derive(Clone, Copy)]
 pub enum Number {
     Zero,
     Digits,
