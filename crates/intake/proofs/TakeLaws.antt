@@ -10,7 +10,7 @@ use mathlib.Core.Logic.{◌⊎◌, inl, inr}
 use lib.Dec.{leb, ltb, eqb}
 use lib.ListN.{length, take, drop, get_or, set, length-append, length-take, length-drop, length-set, take-append-drop, drop_of_length-le, get_or-append}
 use lib.Seq.{take-suc, drop-cons, append_snoc, set_at, length-take-le, take_all, take-length, take-append_seam, drop-append_seam, take-append-add}
-use lib.Seq.{drop-append-add, drop-drop, get_or-append-add, get_or-drop, get_or-take, take-append-le, drop-append-le, drop-length}
+use lib.Seq.{drop-append-add, drop-drop, get_or-append-add, get_or-drop, get_or-take, drop-length}
 use borrow.Author.Tests.{ltb-true, ltb-false, leb-true, leb-false, eqb-true, le-ltb}
 use Rattle.keywords.proofs.Logic.{split}
 use Rattle.grammar.specs.declared.profile.Profile.{Profile}

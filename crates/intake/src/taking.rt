@@ -21,6 +21,7 @@ pub struct Taken {
 }
 
 // What was read is a lexeme over the limit.
+#[tactic(auto, unfolding(crate::specs::Takes::is_over))]
 pub fn is_over(reading: Reading, held: usize) -> bool
     ensures { result ≡ is_over reading held }
 {
@@ -31,6 +32,7 @@ pub fn is_over(reading: Reading, held: usize) -> bool
 }
 
 // No byte more is wanted; a full row holds no more.
+#[tactic(auto, unfolding(crate::specs::Takes::is_ready))]
 fn is_ready(room: usize, reading: Reading, held: usize) -> bool
     ensures { result ≡ is_ready room reading held }
 {
@@ -44,6 +46,7 @@ fn is_ready(room: usize, reading: Reading, held: usize) -> bool
 }
 
 // A byte is to be read: one that is held, or one more of the part.
+#[tactic(auto, unfolding(crate::specs::Takes::is_wanted))]
 fn is_wanted(
     room: usize,
     reading: Reading,
@@ -64,6 +67,7 @@ fn is_wanted(
 }
 
 // A byte of the part into the row, where all that is held was read; how many bytes that were.
+#[tactic(auto, unfolding(crate::specs::Takes::filled, crate::specs::Takes::filling))]
 fn fill(row: &mut [u8], read: usize, held: usize, part: &[u8], taken: usize) -> usize
     requires { held ≤ read → (held < length row.old) × (taken < length part.now) }
     ensures { (result ≡ filled read held) × (row.new ≡ filling row.old read held part.now taken) }
@@ -115,6 +119,7 @@ pub fn bring(row: &mut [u8], given: usize, held: usize) -> usize
 }
 
 // How many of the bytes held were read: where no token was given, all; behind one none yet.
+#[tactic(auto, unfolding(crate::specs::Takes::read_so_far))]
 fn read_so_far(given: usize, held: usize) -> usize
     ensures { result ≡ read_so_far given held }
 {
