@@ -1,7 +1,7 @@
 -- The exponent of a number. Assumes nothing.
 use Prim.Native.Nat.{ℕ, ◌+◌, ◌-◌, ◌≤◌, ◌<◌}
 use native.Mathlib.Omega.{arith}
-use mathlib.Core.Path.{◌≡◌, refl, sym, ◌∙◌, ap}
+use mathlib.Core.Path.{◌≡◌, refl, sym, ◌∙◌}
 use mathlib.Core.Bool.{true, false, ◌&&◌, true≢false}
 use mathlib.Core.Logic.{◌⊎◌, inl, inr}
 use mathlib.Core.List.{List, [], ◌∷◌}
@@ -17,7 +17,7 @@ use Rattle.grammar.specs.Answers.{first, answer}
 use Rattle.grammar.specs.Runs.{char, sees, part, moved, optional}
 use Rattle.grammar.proofs.States.{met}
 use Rattle.grammar.proofs.Scan.{goes, meets}
-use Rattle.grammar.proofs.Seen.{misses-none, misses-or, or_left, or_right, or-other, inside-sees, except-sees}
+use Rattle.grammar.proofs.Seen.{misses-none, misses-or, or-other, inside-sees, except-sees}
 use Rattle.grammar.proofs.Seen.{moved-one, moved_up, optional-one, optional-none, optional-up}
 use Rattle.grammar.proofs.RulePlaces.{float_rule, underscore_rule, no_exponent_rule, word_after_exponent_rule}
 use Rattle.grammar.proofs.Reading.{ReadsUnder, EndsUnder, behind, behind_under, ends-long, ends-in, reads-eat, reads-joined, reads-stop}
@@ -30,7 +30,6 @@ use Rattle.grammar.proofs.Places.{Group, Counted, Exponent}
 use Rattle.lexer.specs.Values.{LexesUnder}
 use Rattle.lexer.proofs.SpanLaws.{init-long, only-any, first-in, group-start}
 use Rattle.lexer.proofs.CountLaws.{counted-other}
-use Rattle.lexer.proofs.GroupLaws.{end_of, groups-read}
 use Rattle.lexer.proofs.DigitLaws.{Run, After, Stuck, digits-after, digits-stuck}
 use Rattle.lexer.proofs.NumberLaws.{span-lexes}
 

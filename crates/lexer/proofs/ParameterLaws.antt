@@ -7,7 +7,7 @@ use lib.ListN.{drop}
 use Rattle.keywords.specs.Kinds.{kind}
 use Rattle.keywords.specs.Text.{bytes}
 use Rattle.words.specs.Bytes.{is_digit, is_hexdigit, is_identifier_start, is_identifier_continue, is_blank}
-use Rattle.grammar.specs.Form.{none, D, S, C, blank, byte, no, ◌or◌, any}
+use Rattle.grammar.specs.Form.{none, D, S, C, blank, no, ◌or◌, any}
 use Rattle.grammar.specs.declared.profile.Profile.{Profile}
 use Rattle.grammar.specs.declared.profile.Profile.TheVariants.{Turso, Sqlite}
 use Rattle.grammar.specs.Classes.{operators, rules}
@@ -15,7 +15,7 @@ use Rattle.grammar.specs.Answers.{answer}
 use Rattle.grammar.specs.Runs.{char, sees, sees_pair, moved, over}
 use Rattle.grammar.proofs.Seen.{inside-misses, misses-none, misses-or, over-stops, misses-any}
 use Rattle.grammar.proofs.RulePlaces.{operator_rule, parameter_rule, nameless_rule, unclosed_rule}
-use Rattle.grammar.proofs.Reading.{Reads, ReadsUnder, EndsUnder, Ends, Spelled, behind, behind_under, spelled-reads, spelled-part, reads-eat, reads-while, reads-join}
+use Rattle.grammar.proofs.Reading.{Reads, ReadsUnder, EndsUnder, Ends, Spelled, behind, spelled-reads, spelled-part, reads-eat, reads-while, reads-join}
 use Rattle.grammar.proofs.Reading.{reads-joined, reads-joined-pair, reads-pair, reads-no-pair, reads-stop}
 use Rattle.lexer.specs.declared.lexed.Refusal.TheVariants.{UnrecognizedToken}
 use Rattle.lexer.specs.declared.lexed.Lexed.{Lexed}

@@ -8,19 +8,19 @@ ghost use Rattle.lexer.specs.Eaten.{head, hexdigit, past};
 
 use words::bytes::{is_blank, is_digit, is_hexdigit, is_identifier_continue, is_identifier_start};
 
-#[derive(Drop)]
+#[derive(Clone, Copy)]
 pub struct Cursor {
     pub at: usize,
 }
 
-#[derive(Drop)]
+#[derive(Clone, Copy)]
 pub enum Peek {
     Byte(u8),
     Nothing,
 }
 
 // Found: behind the byte. Missed: at the end.
-#[derive(Drop)]
+#[derive(Clone, Copy)]
 pub(crate) enum Past {
     Found(Cursor),
     Missed(Cursor),

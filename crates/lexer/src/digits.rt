@@ -5,7 +5,7 @@ ghost use Rattle.lexer.specs.Eaten.{digit_run, hex_run};
 use crate::cursor::Cursor;
 
 // A place in a number, and how many digits and underscores the number has before it.
-#[derive(Drop)]
+#[derive(Clone, Copy)]
 pub(crate) struct Tally {
     pub(crate) cursor: Cursor,
     pub(crate) digits: usize,
@@ -13,7 +13,7 @@ pub(crate) struct Tally {
 }
 
 // Read: behind the run, which is counted. Bad: a span, from where the last group starts.
-#[derive(Drop)]
+#[derive(Clone, Copy)]
 pub(crate) enum Digits {
     Read(Tally),
     Bad(Cursor, Cursor),

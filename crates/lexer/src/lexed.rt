@@ -9,7 +9,7 @@ use crate::digits::Tally;
 pub const MOST: usize = 4294967295;
 
 // The errors that the Rust's lexer gives, in the order of document 01's numbers, and the one that it adds.
-#[derive(Drop)]
+#[derive(Clone, Copy)]
 pub enum Refusal {
     UnrecognizedToken,
     UnterminatedLiteral,
@@ -24,7 +24,7 @@ pub enum Refusal {
 // `digits`, `underscores`: how many of them a number has, MOST where they are more; any other token has 0.
 // `next`: behind a token; at a refused lexeme's start, where the same refusal comes again, but behind it after class U; past the end as
 // given.
-#[derive(Drop)]
+#[derive(Clone, Copy)]
 pub enum Lexed {
     Token {
         kind: u32,

@@ -1,0 +1,9 @@
+-- `lexer::cursor::Cursor::eat` meets its contract. Assumes nothing.
+use Rattle.lexer.proofs.EatLaws.{moved-not, moved_on}
+use Rattle.lexer.proofs.cursor.Cursor.eat.Goals as goal
+
+pub returns-then-at-text : goal.returns-then-at-text
+returns-then-at-text c = moved_on _ _ c.if-at-text.true
+
+pub returns : goal.returns
+returns c = moved-not _ _ c.if-at-text.false

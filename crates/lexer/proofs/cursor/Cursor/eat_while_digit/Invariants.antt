@@ -1,0 +1,14 @@
+-- `lexer::cursor::Cursor::eat_while_digit` meets its contract. The loop's invariant: from here the run ends where it ends from the start.
+-- Assumes nothing.
+use Prim.Native.Nat.{◌-◌}
+use mathlib.Core.Path.{◌≡◌}
+use lib.ListN.{length}
+use Rattle.grammar.specs.Form.{D}
+use Rattle.grammar.specs.Runs.{over}
+use Rattle.lexer.proofs.cursor.Cursor.eat_while_digit.Given as goal
+
+abbrev pub invariant-loop-at : goal.invariant-loop-at
+invariant-loop-at l = over D l.initial.at l.text ≡ over D l.at l.text
+
+abbrev pub decreases-loop-at : goal.decreases-loop-at
+decreases-loop-at l = length l.text - l.at

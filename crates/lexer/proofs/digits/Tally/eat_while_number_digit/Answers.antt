@@ -1,0 +1,55 @@
+-- `lexer::digits::Tally::eat_while_number_digit` meets its contract. The loop's invariant: from this group, with what was counted before
+-- it, the run answers as from the first; and no more was counted than there are bytes before it. Assumes nothing.
+use native.Mathlib.Omega.{arith}
+use mathlib.Core.Path.{◌∙◌, refl, sym}
+use Rattle.grammar.specs.Form.{D}
+use Rattle.grammar.proofs.Seen.{moved-one, over-on, seen-in}
+use Rattle.lexer.proofs.GroupLaws.{group-bad, group-more, group-read}
+use Rattle.lexer.proofs.digits.Tally.eat_while_number_digit.Goals as goal
+
+pub loop-start-init : goal.loop-start-init
+loop-start-init c = (refl, c.requires)
+
+pub overflow_sub-digits : goal.overflow_sub-digits
+overflow_sub-digits c = over-on _ _ _ _ c.eat_while_digit-end.ensures
+
+pub overflow_add-digits : goal.overflow_add-digits
+overflow_add-digits c =
+    let end = c.eat_while_digit-end in
+    omega (arith, c.loop-start.invariant.1, over-on _ _ _ _ end.ensures, end.type_inv)
+
+pub returns-then-not-sees : goal.returns-then-not-sees
+returns-then-not-sees c =
+    let unseen = sym c.sees.ensures ∙ c.if-not-sees.true in
+    sym (c.loop-start.invariant.0 ∙ group-read D _ c.loop-start.start.at _ _ _ c.eat_while_digit-end.ensures unseen)
+
+pub returns-then-not-sees_digit : goal.returns-then-not-sees_digit
+returns-then-not-sees_digit c =
+    let seen = sym c.sees.ensures ∙ c.if-not-sees.false in
+    let one_on = c.eat-next.ensures ∙ moved-one _ _ _ seen in
+    let missed = sym c.sees_digit.ensures ∙ c.if-not-sees_digit.true in
+    sym (c.loop-start.invariant.0 ∙ group-bad D _ c.loop-start.start.at _ _ _ c.eat_while_digit-end.ensures seen _ one_on missed)
+
+pub overflow_add-underscores : goal.overflow_add-underscores
+overflow_add-underscores c =
+    let end = c.eat_while_digit-end in
+    let one_on = c.eat-next.ensures ∙ moved-one _ _ _ (sym c.sees.ensures ∙ c.if-not-sees.false) in
+    omega (arith, c.loop-start.invariant.1, over-on _ _ _ _ end.ensures, one_on, c.eat-next.type_inv)
+
+pub loop-start-smaller : goal.loop-start-smaller
+loop-start-smaller c =
+    let end = c.eat_while_digit-end in
+    let seen = sym c.sees.ensures ∙ c.if-not-sees.false in
+    let one_on = c.eat-next.ensures ∙ moved-one _ _ _ seen in
+    omega (arith, one_on, over-on _ _ _ _ end.ensures, seen-in _ c.args.text.now end.result.at seen)
+
+pub loop-start-preserved : goal.loop-start-preserved
+loop-start-preserved c =
+    let loop = c.loop-start in
+    let end = c.eat_while_digit-end in
+    let seen = sym c.sees.ensures ∙ c.if-not-sees.false in
+    let one_on = c.eat-next.ensures ∙ moved-one _ _ _ seen in
+    let more = sym c.sees_digit.ensures ∙ c.if-not-sees_digit.false in (
+      loop.invariant.0 ∙ group-more D _ loop.start.at _ _ _ end.ensures seen _ one_on more,
+      omega (arith, loop.invariant.1, over-on _ _ _ _ end.ensures, one_on),
+    )

@@ -1,0 +1,19 @@
+-- `lexer::next::eat_and` meets its contract. Assumes nothing.
+use mathlib.Core.Path.{◌∙◌, refl, sym}
+use Rattle.grammar.proofs.Seen.{moved-one, seen-in}
+use Rattle.grammar.proofs.Reading.{spelled-first}
+use Rattle.lexer.proofs.AnswerLaws.{one_token}
+use Rattle.lexer.proofs.NextLaws.{under}
+use Rattle.lexer.proofs.OperatorLaws.{and-lexed}
+use Rattle.lexer.proofs.next.eat_and.Goals as goal
+
+pub eat_one_token-requires : goal.eat_one_token-requires
+eat_one_token-requires c = seen-in _ _ _ c.requires
+
+pub returns-in-Turso : goal.returns-in-Turso
+returns-in-Turso c = under c.in-Turso.is _ _ _ c.eat_overlap_or_bitand.ensures
+
+pub returns-in-Sqlite : goal.returns-in-Sqlite
+returns-in-Sqlite c =
+    let one = spelled-first 38 _ _ c.requires (sym (moved-one _ _ _ c.requires)) in
+    under c.in-Sqlite.is _ _ _ (and-lexed one _ (c.eat_one_token.ensures ∙ sym (one_token _ _ _ refl)))

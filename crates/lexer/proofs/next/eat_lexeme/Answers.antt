@@ -1,0 +1,185 @@
+-- `lexer::next::eat_lexeme` meets its contract, arm by arm. Assumes nothing.
+use mathlib.Core.Path.{refl}
+use Rattle.words.specs.Bytes.{is_digit}
+use Rattle.grammar.specs.Classes.{U, operators}
+use Rattle.grammar.specs.Form.{D, S, ◌or◌}
+use Rattle.grammar.proofs.Reading.{spelled-first}
+use Rattle.grammar.proofs.Seen.{moved_up, seen-in}
+use Rattle.lexer.proofs.NextLaws.{byte-in, key-lexed, key-lift, key-seen, later}
+use Rattle.lexer.proofs.OperatorLaws.{follow, is_operator}
+use Rattle.lexer.proofs.ParameterLaws.{dollar-reads}
+use borrow.Author.Rules.{rules}
+use Rattle.lexer.proofs.next.eat_lexeme.Goals as goal
+
+pub eat_minus_or_comment_or_ptr-requires : goal.eat_minus_or_comment_or_ptr-requires
+eat_minus_or_comment_or_ptr-requires c = key-seen 45 _ _ c.requires.0 c.in-45.is
+
+pub eat_one_token-requires : goal.eat_one_token-requires
+eat_one_token-requires c = seen-in _ _ _ c.requires.0
+
+pub eat_one_token-requires-in-41 : goal.eat_one_token-requires-in-41
+eat_one_token-requires-in-41 c = seen-in _ _ _ c.requires.0
+
+pub eat_one_token-requires-in-59 : goal.eat_one_token-requires-in-59
+eat_one_token-requires-in-59 c = seen-in _ _ _ c.requires.0
+
+pub eat_one_token-requires-in-43 : goal.eat_one_token-requires-in-43
+eat_one_token-requires-in-43 c = seen-in _ _ _ c.requires.0
+
+pub eat_one_token-requires-in-42 : goal.eat_one_token-requires-in-42
+eat_one_token-requires-in-42 c = seen-in _ _ _ c.requires.0
+
+pub eat_slash_or_comment-requires : goal.eat_slash_or_comment-requires
+eat_slash_or_comment-requires c = key-seen 47 _ _ c.requires.0 c.in-47.is
+
+pub eat_one_token-requires-in-37 : goal.eat_one_token-requires-in-37
+eat_one_token-requires-in-37 c = seen-in _ _ _ c.requires.0
+
+pub eat_eq-requires : goal.eat_eq-requires
+eat_eq-requires c = key-seen 61 _ _ c.requires.0 c.in-61.is
+
+pub eat_le_or_ne_or_lshift_or_lt-requires : goal.eat_le_or_ne_or_lshift_or_lt-requires
+eat_le_or_ne_or_lshift_or_lt-requires c = key-seen 60 _ _ c.requires.0 c.in-60.is
+
+pub eat_ge_or_gt_or_rshift-requires : goal.eat_ge_or_gt_or_rshift-requires
+eat_ge_or_gt_or_rshift-requires c = key-seen 62 _ _ c.requires.0 c.in-62.is
+
+pub eat_ne-requires : goal.eat_ne-requires
+eat_ne-requires c = key-seen 33 _ _ c.requires.0 c.in-33.is
+
+pub eat_concat_or_bitor-requires : goal.eat_concat_or_bitor-requires
+eat_concat_or_bitor-requires c = key-seen 124 _ _ c.requires.0 c.in-124.is
+
+pub eat_one_token-requires-in-44 : goal.eat_one_token-requires-in-44
+eat_one_token-requires-in-44 c = seen-in _ _ _ c.requires.0
+
+pub eat_and-requires : goal.eat_and-requires
+eat_and-requires c = key-seen 38 _ _ c.requires.0 c.in-38.is
+
+pub eat_one_token-requires-in-126 : goal.eat_one_token-requires-in-126
+eat_one_token-requires-in-126 c = seen-in _ _ _ c.requires.0
+
+pub eat_lit_or_id-requires : goal.eat_lit_or_id-requires
+eat_lit_or_id-requires c = (c.requires.0, rw c.in-39.is)
+
+pub eat_lit_or_id-requires-in-34 : goal.eat_lit_or_id-requires-in-34
+eat_lit_or_id-requires-in-34 c = (c.requires.0, rw c.in-34.is)
+
+pub eat_lit_or_id-requires-in-96 : goal.eat_lit_or_id-requires-in-96
+eat_lit_or_id-requires-in-96 c = (c.requires.0, rw c.in-96.is)
+
+pub eat_dot_or_frac-requires : goal.eat_dot_or_frac-requires
+eat_dot_or_frac-requires c = key-seen 46 _ _ c.requires.0 c.in-46.is
+
+pub eat_bracket-requires : goal.eat_bracket-requires
+eat_bracket-requires c = key-seen 91 _ _ c.requires.0 c.in-91.is
+
+pub eat_one_token-requires-in-93 : goal.eat_one_token-requires-in-93
+eat_one_token-requires-in-93 c = seen-in _ _ _ c.requires.0
+
+pub eat_at-requires : goal.eat_at-requires
+eat_at-requires c = key-seen 64 _ _ c.requires.0 c.in-64.is
+
+pub eat_numbered_var-requires : goal.eat_numbered_var-requires
+eat_numbered_var-requires c = key-seen 63 _ _ c.requires.0 c.in-63.is
+
+pub eat_named_var-requires : goal.eat_named_var-requires
+eat_named_var-requires c = moved_up _ _ _ c.eat.ensures
+
+pub eat_illegal-requires : goal.eat_illegal-requires
+eat_illegal-requires c = key-seen 35 _ _ c.requires.0 c.in-35.is
+
+pub eat_colon-requires : goal.eat_colon-requires
+eat_colon-requires c = key-seen 58 _ _ c.requires.0 c.in-58.is
+
+pub eat_number_or_name-requires : goal.eat_number_or_name-requires
+eat_number_or_name-requires c = byte-in (D or S or U) _ _ c.requires.0 (later _ c.requires.1 (search rules))
+
+pub returns-in-45 : goal.returns-in-45
+unfolding is_digit
+returns-in-45 c = key-lift 45 _ _ _ _ c.requires.0 c.in-45.is refl _ c.eat_minus_or_comment_or_ptr.ensures
+
+pub returns-in-40 : goal.returns-in-40
+unfolding follow is_operator operators is_digit
+returns-in-40 c = key-lexed 40 _ _ _ _ c.requires.0 c.in-40.is refl refl refl refl _ c.eat_one_token.ensures
+
+pub returns-in-41 : goal.returns-in-41
+unfolding follow is_operator operators is_digit
+returns-in-41 c = key-lexed 41 _ _ _ _ c.requires.0 c.in-41.is refl refl refl refl _ c.eat_one_token-in-41.ensures
+
+pub returns-in-59 : goal.returns-in-59
+unfolding follow is_operator operators is_digit
+returns-in-59 c = key-lexed 59 _ _ _ _ c.requires.0 c.in-59.is refl refl refl refl _ c.eat_one_token-in-59.ensures
+
+pub returns-in-43 : goal.returns-in-43
+unfolding follow is_operator operators is_digit
+returns-in-43 c = key-lexed 43 _ _ _ _ c.requires.0 c.in-43.is refl refl refl refl _ c.eat_one_token-in-43.ensures
+
+pub returns-in-42 : goal.returns-in-42
+unfolding follow is_operator operators is_digit
+returns-in-42 c = key-lexed 42 _ _ _ _ c.requires.0 c.in-42.is refl refl refl refl _ c.eat_one_token-in-42.ensures
+
+pub returns-in-47 : goal.returns-in-47
+unfolding is_digit
+returns-in-47 c = key-lift 47 _ _ _ _ c.requires.0 c.in-47.is refl _ c.eat_slash_or_comment.ensures
+
+pub returns-in-37 : goal.returns-in-37
+unfolding follow is_operator operators is_digit
+returns-in-37 c = key-lexed 37 _ _ _ _ c.requires.0 c.in-37.is refl refl refl refl _ c.eat_one_token-in-37.ensures
+
+pub returns-in-61 : goal.returns-in-61
+unfolding is_digit
+returns-in-61 c = key-lift 61 _ _ _ _ c.requires.0 c.in-61.is refl _ c.eat_eq.ensures
+
+pub returns-in-60 : goal.returns-in-60
+unfolding is_digit
+returns-in-60 c = key-lift 60 _ _ _ _ c.requires.0 c.in-60.is refl _ c.eat_le_or_ne_or_lshift_or_lt.ensures
+
+pub returns-in-62 : goal.returns-in-62
+unfolding is_digit
+returns-in-62 c = key-lift 62 _ _ _ _ c.requires.0 c.in-62.is refl _ c.eat_ge_or_gt_or_rshift.ensures
+
+pub returns-in-33 : goal.returns-in-33
+unfolding is_digit
+returns-in-33 c = key-lift 33 _ _ _ _ c.requires.0 c.in-33.is refl _ c.eat_ne.ensures
+
+pub returns-in-124 : goal.returns-in-124
+unfolding is_digit
+returns-in-124 c = key-lift 124 _ _ _ _ c.requires.0 c.in-124.is refl _ c.eat_concat_or_bitor.ensures
+
+pub returns-in-44 : goal.returns-in-44
+unfolding follow is_operator operators is_digit
+returns-in-44 c = key-lexed 44 _ _ _ _ c.requires.0 c.in-44.is refl refl refl refl _ c.eat_one_token-in-44.ensures
+
+pub returns-in-126 : goal.returns-in-126
+unfolding follow is_operator operators is_digit
+returns-in-126 c = key-lexed 126 _ _ _ _ c.requires.0 c.in-126.is refl refl refl refl _ c.eat_one_token-in-126.ensures
+
+pub returns-in-39 : goal.returns-in-39
+unfolding is_digit
+returns-in-39 c = key-lift 39 _ _ _ _ c.requires.0 c.in-39.is refl _ c.eat_lit_or_id.ensures
+
+pub returns-in-34 : goal.returns-in-34
+unfolding is_digit
+returns-in-34 c = key-lift 34 _ _ _ _ c.requires.0 c.in-34.is refl _ c.eat_lit_or_id-in-34.ensures
+
+pub returns-in-96 : goal.returns-in-96
+unfolding is_digit
+returns-in-96 c = key-lift 96 _ _ _ _ c.requires.0 c.in-96.is refl _ c.eat_lit_or_id-in-96.ensures
+
+pub returns-in-93 : goal.returns-in-93
+unfolding follow is_operator operators is_digit
+returns-in-93 c = key-lexed 93 _ _ _ _ c.requires.0 c.in-93.is refl refl refl refl _ c.eat_one_token-in-93.ensures
+
+pub returns-in-63 : goal.returns-in-63
+unfolding is_digit
+returns-in-63 c = key-lift 63 _ _ _ _ c.requires.0 c.in-63.is refl _ c.eat_numbered_var.ensures
+
+pub returns-in-36 : goal.returns-in-36
+returns-in-36 c =
+    let seen = key-seen 36 _ _ c.requires.0 c.in-36.is in
+    c.eat_named_var.ensures _ (dollar-reads _ (spelled-first 36 _ _ seen c.eat.ensures))
+
+pub returns-in-35 : goal.returns-in-35
+unfolding is_digit
+returns-in-35 c = key-lift 35 _ _ _ _ c.requires.0 c.in-35.is refl _ c.eat_illegal.ensures

@@ -1,0 +1,29 @@
+-- `lexer::next::eat_number_or_name` meets its contract. Assumes nothing.
+use mathlib.Core.Path.{◌∙◌, refl, sym}
+use Rattle.words.specs.Bytes.{is_digit, is_identifier_start, is_blank}
+use Rattle.grammar.specs.Classes.{U}
+use Rattle.grammar.specs.Form.{D, S, ◌or◌}
+use Rattle.grammar.proofs.Seen.{or-other}
+use Rattle.lexer.proofs.NextLaws.{lift}
+use Rattle.lexer.proofs.next.eat_number_or_name.Goals as goal
+
+pub eat_number-requires : goal.eat_number-requires
+eat_number-requires c = sym c.sees_digit.ensures ∙ c.if-sees_digit.true
+
+pub eat_blob_or_id-requires : goal.eat_blob_or_id-requires
+eat_blob_or_id-requires c = sym c.sees_start.ensures ∙ c.if-sees_start.true
+
+pub returns-then-sees_start : goal.returns-then-sees_start
+unfolding is_digit is_identifier_start
+returns-then-sees_start c = lift S refl _ _ _ (sym c.sees_start.ensures ∙ c.if-sees_start.true) _ c.eat_blob_or_id.ensures
+
+pub eat_unrecognized-requires : goal.eat_unrecognized-requires
+eat_unrecognized-requires c =
+    let other = or-other D (S or U) _ c.requires (sym c.sees_digit.ensures ∙ c.if-sees_digit.false) in
+    or-other S U _ other (sym c.sees_start.ensures ∙ c.if-sees_start.false)
+
+pub returns : goal.returns
+unfolding is_digit is_blank
+returns c =
+    let other = or-other D (S or U) _ c.requires (sym c.sees_digit.ensures ∙ c.if-sees_digit.false) in
+    lift U refl _ _ _ (or-other S U _ other (sym c.sees_start.ensures ∙ c.if-sees_start.false)) _ c.eat_unrecognized.ensures

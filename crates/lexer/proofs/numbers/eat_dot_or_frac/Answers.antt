@@ -1,0 +1,20 @@
+-- `lexer::numbers::eat_dot_or_frac` meets its contract. Assumes nothing.
+use mathlib.Core.Path.{◌∙◌, sym}
+use Rattle.grammar.proofs.Seen.{moved_up}
+use Rattle.grammar.proofs.Reading.{spelled-first}
+use Rattle.lexer.proofs.FractionLaws.{dot-lexed, first_counted, first-fraction}
+use Rattle.lexer.proofs.numbers.eat_dot_or_frac.Goals as goal
+
+pub eat_frac-requires : goal.eat_frac-requires
+eat_frac-requires c =
+    record { fraction = first-fraction _ _ _ _ c.requires c.eat-rest.ensures (sym c.sees_digit.ensures ∙ c.if-sees_digit.true); counted = first_counted _ _ _ c.requires c.eat-rest.ensures }
+
+pub returns-then-sees_digit : goal.returns-then-sees_digit
+returns-then-sees_digit c = c.eat_frac.ensures
+
+pub token-requires : goal.token-requires
+token-requires c = moved_up _ _ _ c.eat-rest.ensures
+
+pub returns : goal.returns
+returns c =
+    dot-lexed _ (spelled-first 46 _ _ c.requires c.eat-rest.ensures) (sym c.sees_digit.ensures ∙ c.if-sees_digit.false) _ c.token.ensures
