@@ -5,7 +5,7 @@ its address and its length, which are put into memory for the function in Rattle
 import re
 import sys
 
-EXPORTED = re.compile(r'#\[no_mangle\]\s+pub extern "C" fn (\w+)\((.*?)\)\s*->', re.S)
+EXPORTED = re.compile(r'#\[unsafe\(no_mangle\)\]\s+pub extern "C" fn (\w+)\((.*?)\)\s*->', re.S)
 SLICE = re.compile(r"&(mut )?\[\w+\]$")
 
 

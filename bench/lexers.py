@@ -8,11 +8,11 @@ import subprocess
 
 from machines import HERE, M4, OUT, ROOT, X86, Missing, compile_c, need, run
 
-KIT = pathlib.Path(run("rt", "doc").strip()).parent.parent / "on" / os.uname().machine / "toolchain/bin"
+KIT = pathlib.Path(run("rt", "doc").strip()).parent / "toolchain/bin"
 # What is measured: the proved archive and its module; or, with bench/run --unproved, the module of a source that nothing proves.
 UNPROVED = "BENCH_UNPROVED" in os.environ
 KEPT = OUT / "unproved" if UNPROVED else OUT
-ARCHIVE = ROOT / "target/staticlib/libcapi.a"
+ARCHIVE = OUT / "libcapi.a"
 X86_TARGET, UNPACKED = "x86_64-unknown-linux-gnu", OUT / "rustc/usr"  # what bench/setup unpacks
 STEP = "steps::step::step"
 # How many numbers are written of a token: kind, start and length, and in a list also line and column, which bench's own loops have not.

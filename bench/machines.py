@@ -1,12 +1,14 @@
 """The two machines that are measured: how C is compiled for each, and how a program is run on it. Both are emulated on every host."""
 import functools
+import os
 import pathlib
 import shutil
 import subprocess
 
 HERE = pathlib.Path(__file__).resolve().parent
 ROOT = HERE.parent
-OUT = ROOT / "target/bench"
+# Outside the repository, since `rt ci` refuses one with links in it; bench/run and bench/setup have the same folder.
+OUT = pathlib.Path(os.environ.get("XDG_CACHE_HOME") or pathlib.Path.home() / ".cache") / "tsewubrin-bench"
 
 
 class Missing(Exception):
@@ -28,7 +30,7 @@ def run(*words):
 
 class X86:
     name, compiler, emulator = "x86-64", "x86_64-linux-gnu-gcc", "qemu-x86_64"
-    compiler_package = "Debian: gcc and libc6-dev; on Arm gcc-x86-64-linux-gnu and libc6-dev-amd64-cross"
+    compiler_package = "Debian: gcc and libc6-dev"
     emulator_package = "Debian: qemu-user"
     library, flags, extra, nm = "libc.a", ["-static"], [], "x86_64-linux-gnu-nm"
     pushed = 8  # bytes that a call itself puts on the stack

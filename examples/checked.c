@@ -6,8 +6,8 @@
  * FILE: ACCEPTED and how many records it has, or the refusal and its index. With `sqlite` both lex under the profile nearer SQLite. What the
  * phone sends, or what becomes of it on the way, the watch need not trust.
  *
- *     rt staticlib capi
- *     cc -Iinclude -o checked examples/checked.c target/staticlib/libcapi.a
+ *     tools/archive target/libcapi.a
+ *     cc -Iinclude -o checked examples/checked.c target/libcapi.a
  */
 #include <stdio.h>
 #include <string.h>

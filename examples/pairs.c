@@ -5,8 +5,8 @@
  * pairs [sqlite] [FILE] reads FILE, or standard input; with `sqlite` it lexes under the profile nearer SQLite, where `[name]` is no bracket.
  * It keeps the text, its list and the partners in static memory; the library uses no heap.
  *
- *     rt staticlib capi
- *     cc -Iinclude -o pairs examples/pairs.c target/staticlib/libcapi.a
+ *     tools/archive target/libcapi.a
+ *     cc -Iinclude -o pairs examples/pairs.c target/libcapi.a
  */
 #include <inttypes.h>
 #include <stdio.h>

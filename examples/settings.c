@@ -7,8 +7,8 @@
  * `sqlite` under the profile nearer SQLite. All that is kept of the text is one part and one row, and of a literal its value, in static
  * memory; the library uses no heap.
  *
- *     rt staticlib capi
- *     cc -Iinclude -o settings examples/settings.c target/staticlib/libcapi.a
+ *     tools/archive target/libcapi.a
+ *     cc -Iinclude -o settings examples/settings.c target/libcapi.a
  *     echo "INSERT INTO settings VALUES ('stillness', 5), ('name', 'it''s'), ('key', x'0AFF'), (\"quoted\", -3);" | ./settings
  */
 #include <inttypes.h>

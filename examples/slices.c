@@ -4,8 +4,8 @@
  * slices [sqlite] [FILE] reads FILE, or standard input; with `sqlite` it lexes under the profile nearer SQLite. It keeps the text and
  * one short list in static memory; the library uses no heap.
  *
- *     rt staticlib capi
- *     cc -Iinclude -o slices examples/slices.c target/staticlib/libcapi.a
+ *     tools/archive target/libcapi.a
+ *     cc -Iinclude -o slices examples/slices.c target/libcapi.a
  */
 #include <inttypes.h>
 #include <stdio.h>

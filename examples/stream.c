@@ -5,8 +5,8 @@
  * lexeme more than 2,048, blanks and comments included: such a one is refused as LexemeTooLong. All that is kept of the text is one
  * part and one row, in static memory; the library uses no heap.
  *
- *     rt staticlib capi
- *     cc -Iinclude -o stream examples/stream.c target/staticlib/libcapi.a
+ *     tools/archive target/libcapi.a
+ *     cc -Iinclude -o stream examples/stream.c target/libcapi.a
  */
 #include <stdio.h>
 #include <string.h>

@@ -3,8 +3,8 @@
  * tokens [sqlite] [FILE] reads FILE, or standard input; with `sqlite` it lexes under the profile nearer SQLite, which sqllex does not
  * have. It keeps the text and one short list in static memory; the library uses no heap.
  *
- *     rt staticlib capi
- *     cc -Iinclude -o tokens examples/tokens.c target/staticlib/libcapi.a
+ *     tools/archive target/libcapi.a
+ *     cc -Iinclude -o tokens examples/tokens.c target/libcapi.a
  */
 #include <inttypes.h>
 #include <stdio.h>

@@ -1,8 +1,8 @@
 //! Prints the tokens of a text as the program sqllex does: a line for each with its kind, start and length, then how it ended.
 //! tokens [sqlite] [FILE] reads FILE, or standard input; with `sqlite` it lexes under the profile nearer SQLite, which sqllex does not have.
 //!
-//!     rt staticlib capi
-//!     rustc --edition 2021 -O -L target/staticlib -o tokens examples/tokens.rs
+//!     tools/archive target/libcapi.a
+//!     rustc --edition 2021 -O -L target -o tokens examples/tokens.rs
 use sqllex::{Lexed, Profile};
 use std::fs::File;
 use std::io::{self, BufWriter, Read, Write};

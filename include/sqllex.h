@@ -3,7 +3,7 @@
  * examples/checked.c checks a list that was made elsewhere, examples/pairs.c pairs the brackets of a list, examples/stream.c lexes a text in
  * small parts, examples/settings.c reads the literals of such a text as they arrive, and examples/tokens.rs calls sqllex_next from Rust.
  *
- * Declares the calls of target/staticlib/libcapi.a, which `rt staticlib capi` proves and builds from crates/capi. The archive is
+ * Declares the calls of libcapi.a, which `tools/archive FILE` proves, builds from crates/capi and puts at FILE. The archive is
  * code for x86-64 Linux, needs no other library, and follows that system's calling convention, SSE registers and the red zone
  * included. tests/header fails where this file and the code part ways.
  *
