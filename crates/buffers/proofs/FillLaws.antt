@@ -1,13 +1,11 @@
 -- A buffer that is filled from the front with the bytes of a list. Assumes nothing.
 use Prim.Native.Nat.{ℕ, suc, ◌+◌, ◌-◌, ◌≤◌, ◌<◌}
 use native.Mathlib.Omega.{arith}
-use native.Mathlib.Nat.{add-zero}
 use native.Mathlib.Numerals.{add-one}
 use mathlib.Core.Path.{◌≡◌, refl, sym, ◌∙◌, ap}
-use mathlib.Core.Bool.{true, false}
 use mathlib.Core.List.{List, [], ◌∷◌, ◌++◌, append_assoc}
-use lib.ListN.{length, get_or, take, drop, set, length-append, length-drop, take-append-drop}
-use lib.Seq.{drop-cons, take-suc, set_at, get_or-drop, drop-drop, length-take-le, take_all, drop_at, drop-append-add}
+use lib.ListN.{length, get_or, take, drop, set, length-append, length-drop}
+use lib.Seq.{drop-cons, take-suc, set_at, drop-drop, length-take-le, take_all, drop_at, drop-append-add}
 use borrow.Author.Tests.{le-leb, lt-leb}
 use Rattle.buffers.specs.Buffers.{filled, refused_as, before, Fills}
 
