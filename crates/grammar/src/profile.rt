@@ -1,5 +1,5 @@
 // Whose SQL is lexed: Turso's, which is document 01's, or request 7's, which is nearer SQLite's.
-#[derive(Drop)]
+#[derive(Clone, Copy)]
 pub enum Profile {
     Turso,
     Sqlite,

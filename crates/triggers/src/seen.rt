@@ -7,7 +7,7 @@ use keywords::kinds::{
 };
 
 // Which kinds they are, TK_NONE left out.
-#[derive(Drop)]
+#[derive(Clone, Copy)]
 pub enum Seen {
     // none
     Nothing,
