@@ -3,17 +3,13 @@ use Prim.Native.Nat.{ℕ, ◌/◌, ◌%◌, ◌≤◌, ◌<◌}
 use native.Mathlib.Omega.{arith}
 use mathlib.Core.Path.{◌≡◌, refl, sym, ◌∙◌, ap}
 use mathlib.Core.Bool.{true}
-use mathlib.Core.List.{List, [], ◌∷◌}
-use mathlib.Core.Logic.{⊎_elim}
-use types.Run.{OneOf}
-use denote.Enum.Declared.{tag_of}
+use mathlib.Core.List.{List, []}
 use lib.ListN.{length}
 use borrow.Author.Tests.{eq-eqb, ne_eqb, le-leb, lt-leb}
 use Rattle.records.specs.Records.{width}
 use Rattle.brackets.specs.Brackets.{deepest, nesting, partners}
 use Rattle.brackets.specs.Numbers.{are_records, kinds_of, most_records, outcome, written_for}
 use Rattle.brackets.proofs.NumberLaws.{records-count}
-use Rattle.pairs.specs.contracts.Paired as Paired-is
 use Rattle.pairs.specs.declared.Paired.{Paired}
 use Rattle.pairs.specs.declared.Paired.TheVariants.{Deepest, NotRecords, TooLong, NoRoom, TooDeep, WrongCloser, LeftOpen}
 use Rattle.pairs.specs.Pairs.{outcome_of, Pairs}
@@ -52,12 +48,8 @@ module _ (ns before : List ℕ) where
         unfolding Pairs
         answers r after e w = (e ∙ sym looked, w ∙ ap (λ o. written_for o (kinds_of ns) before) (e ∙ sym looked))
 
-        pub faulty : (r : Paired) → OneOf (1 ∷ 2 ∷ 3 ∷ 4 ∷ 5 ∷ 6 ∷ []) (tag_of Paired-is.the_type r) → outcome_of r ≡ nesting (kinds_of ns) 0 [] 0
-            → Pairs ns before r before
-        faulty (Deepest d) f e = absurd (not-zero f)
-          where
-            not-zero : OneOf (1 ∷ 2 ∷ 3 ∷ 4 ∷ 5 ∷ 6 ∷ []) 0 → ⊥
-            not-zero g = ⊎_elim (λ e. omega arith) (⊎_elim (λ e. omega arith) (⊎_elim (λ e. omega arith) (⊎_elim (λ e. omega arith) (⊎_elim (λ e. omega arith) (λ e. omega arith))))) g
+        pub faulty : (r : Paired) → ((d : ℕ) → r ≡ Deepest d → ⊥) → outcome_of r ≡ nesting (kinds_of ns) 0 [] 0 → Pairs ns before r before
+        faulty (Deepest d) f e = absurd (f d refl)
         faulty NotRecords f e = answers NotRecords before e refl
         faulty TooLong f e = answers TooLong before e refl
         faulty NoRoom f e = answers NoRoom before e refl

@@ -3,17 +3,13 @@ use Prim.Native.Nat.{ℕ, suc, ◌+◌, ◌<◌, max}
 use native.Mathlib.Omega.{arith}
 use mathlib.Core.Path.{◌≡◌, refl, sym, ◌∙◌, ap, subst}
 use mathlib.Core.Bool.{true, false, cond}
-use mathlib.Core.List.{List, [], ◌∷◌}
-use mathlib.Core.Logic.{⊎_elim}
-use types.Run.{OneOf}
-use denote.Enum.Declared.{tag_of}
+use mathlib.Core.List.{List, []}
 use lib.Dec.{eqb}
 use lib.ListN.{length, get_or}
 use borrow.Author.Tests.{eq-eqb, ne_eqb, eqb-true, eqb-false}
 use Rattle.keywords.proofs.Logic.{split}
 use Rattle.brackets.specs.Refusals.{pair_refusal}
 use Rattle.brackets.specs.Brackets.{is_opener, is_closer, closer_of, levels, Open, opening, deepest, refused, nesting}
-use Rattle.pairs.specs.contracts.reading.Part as Part-is
 use Rattle.pairs.specs.declared.reading.Part.{Part}
 use Rattle.pairs.specs.declared.reading.Part.TheVariants.{Upto, TooDeep, WrongCloser, LeftOpen}
 use Rattle.pairs.specs.Parts.{nesting_from, goes_on, Reads, Stops, ItemsEnd, Behind, GroupEnd, closed}
@@ -21,10 +17,10 @@ use Rattle.pairs.proofs.StepLaws.{plain-nesting, opener-nesting, opener-too-deep
 
 -- a part that is at fault: it ends nowhere, and what is open around it plays no part
 abbrev Faulty : Part → Type 0
-Faulty r = OneOf (1 ∷ 2 ∷ 3 ∷ []) (tag_of Part-is.the_type r)
+Faulty r = (at d : ℕ) → r ≡ Upto at d → ⊥
 
 upto-no-fault : {X : Type 0} (at d : ℕ) → Faulty (Upto at d) → X
-upto-no-fault at d f = absurd (⊎_elim (λ e. omega arith) (⊎_elim (λ e. omega arith) (λ e. omega arith)) f)
+upto-no-fault at d f = absurd (f at d refl)
 
 pub faulty-items : (ks : List ℕ) (from : ℕ) (r : Part) → Faulty r → ItemsEnd ks from r
 faulty-items ks from (Upto at d) f = upto-no-fault at d f

@@ -16,7 +16,7 @@ use records::WIDTH;
 const MOST_RECORDS: usize = 65535;
 
 // `Deepest` has how deep the brackets nest. An index is that of the record at fault, the first; of those left open it is the innermost.
-#[derive(Drop)]
+#[derive(Clone, Copy)]
 pub enum Paired {
     Deepest(u32),
     NotRecords,

@@ -14,7 +14,7 @@ use records::WIDTH;
 const LEVELS: u32 = 16;
 
 // Where a part of the list ends, with the deepest nesting up to there, or the first fault.
-#[derive(Drop)]
+#[derive(Clone, Copy)]
 pub(crate) enum Part {
     Upto { at: usize, deepest: u32 },
     TooDeep { index: usize },

@@ -1,5 +1,5 @@
-// What `check_list` is asked and answers, in numbers: which profile a number chooses, and the status and the index of an answer. The call
-// that takes a slice of records is proved by hand, in `capi`; what it decides is decided here. `pairing` has what `pair` answers.
+// What `check_list` is asked and answers, in numbers: which profile a number chooses, and the status and the index of an answer. `pairing`
+// has what `pair` answers.
 #![tactic(auto)]
 
 pub mod pairing;
@@ -19,7 +19,7 @@ const LIST_DIFFERS: u32 = 16;
 const ACCEPTED: u32 = 106;
 
 // Whether a number is a profile's, and which; where it is none's the profile says nothing.
-#[derive(Drop)]
+#[derive(Clone, Copy)]
 pub struct Choice {
     pub known: bool,
     pub profile: Profile,
