@@ -3,7 +3,7 @@ use grammar::profile::Profile;
 use readings::reading::Reading;
 
 // Parts are taken; a finish call was made; every call is refused.
-#[derive(Drop)]
+#[derive(Clone, Copy)]
 pub enum Phase {
     Open,
     Ending,
@@ -12,7 +12,7 @@ pub enum Phase {
 
 // `held`: so many bytes at the front of the row are in use. `given`: the first of these are the token given last, and what is behind them has
 // still to be read; where it is 0, `reading` is that of all that are held. `total`: so many bytes were taken.
-#[derive(Drop)]
+#[derive(Clone, Copy)]
 pub struct Stream {
     pub profile: Profile,
     pub reading: Reading,

@@ -12,7 +12,7 @@ use steps::step::step;
 const LONGEST: usize = 2048;
 
 // What is held then, and whether no byte more is wanted.
-#[derive(Drop)]
+#[derive(Clone, Copy)]
 pub struct Taken {
     pub reading: Reading,
     pub held: usize,
