@@ -1,12 +1,8 @@
 -- Where `cut` stands in its loop, and what it answers from there. Assumes nothing.
 use Prim.Native.Nat.{ℕ, ◌-◌, ◌≤◌}
-use native.Mathlib.Omega.{arith}
 use mathlib.Core.Path.{◌≡◌, refl, sym, ◌∙◌, ap, subst}
 use mathlib.Core.Bool.{Bool, true, false, ◌||◌, true≢false}
 use mathlib.Core.List.{List, [], ◌∷◌, ◌++◌, append_assoc, append-nil}
-use mathlib.Core.Logic.{⊎_elim}
-use types.Run.{OneOf}
-use denote.Enum.Declared.{tag_of}
 use lib.Dec.{T, eqb, eqb→eq}
 use lib.ListN.{length}
 use Rattle.keywords.specs.Kinds.{kind}
@@ -24,7 +20,6 @@ use Rattle.lexer.specs.declared.lexed.Refusal.{Refusal}
 use Rattle.lexer.specs.declared.lexed.Lexed.{Lexed}
 use Rattle.lexer.specs.declared.lexed.Lexed.TheVariants.{Token, End as Over, Refused as Bad}
 use Rattle.lexer.specs.Values.{LexesUnder, number_of}
-use Rattle.lexer.specs.contracts.lexed.Lexed as Lexed-is
 use Rattle.walks.specs.Walk.{Legal, token_of, not_none, Passes}
 use Rattle.walks.proofs.WalkLaws.{legal, token-passes, end-no-token, refusal-no-token, passes-ahead}
 use Rattle.cuts.specs.declared.Statement.{Statement}
@@ -119,16 +114,14 @@ module _ {s : Source} {from at : ℕ} {any : Bool} {seen : Seen} (v : Uncut s fr
       subst (Cutting s from) (ap (λ (a : ℕ). cut_answer from any (end a)) l ∙ sym e)
       (cutting (end at) g (λ t p other. end-no-token at t p))
 
--- which of `next`'s answers this is: 0 a token, 1 End, 2 a refusal
-abbrev which : Lexed → ℕ
-which r = tag_of Lexed-is.the_type r
-
 -- the end of the text, which is what is left where neither a token nor a refusal is given
-pub only_end : (s : Source) (at : ℕ) (r : Lexed) → LexesUnder s.profile s.text at r → OneOf (1 ∷ 2 ∷ []) (which r) → OneOf (0 ∷ 1 ∷ []) (which r)
+pub only_end : (s : Source) (at : ℕ) (r : Lexed) → LexesUnder s.profile s.text at r
+    → ((k start n : ℕ) (next : Cursor) (d u : ℕ) → r ≡ Token k start n next d u → ⊥)
+    → ((why : Refusal) (start n : ℕ) (next : Cursor) → r ≡ Bad why start n next → ⊥)
     → (at ≡ length s.text) × Next s at (end at)
 unfolding LexesUnder
-only_end s at (Token k start n next d u) g p q = let z : ⊥ = ⊎_elim (λ e. omega arith) (λ e. omega arith) p in absurd z
-only_end s at (Bad why start n next) g p q = let z : ⊥ = ⊎_elim (λ e. omega arith) (λ e. omega arith) q in absurd z
+only_end s at (Token k start n next d u) g p q = absurd (p k start n next d u refl)
+only_end s at (Bad why start n next) g p q = absurd (q why start n next refl)
 only_end s at (Over next) g p q =
     let (l, o) = end-told s.profile s.text at next.at g in
     (l, subst (λ (a : ℕ). Next s at (end a)) o g)
