@@ -9,7 +9,7 @@ ghost use Rattle.places.specs.Lines.{most, line_over, has_newline, Clear, FirstN
 pub const NEWLINE: u8 = 0x0A;
 
 // A line's number, from 1 on, and the offset of its first byte.
-#[derive(Drop)]
+#[derive(Clone, Copy)]
 pub struct Line {
     pub number: u32,
     pub start: usize,
