@@ -1,20 +1,25 @@
 // Integers: in decimal digits, and from bytes with the lowest first, one and a list of them.
 ghost use Rattle.std.specs.Prelude.{◌+◌, ◌≤◌, ◌<◌, length};
-ghost use Rattle.io.specs.Counts.{IsPrefixLen};
+ghost use Rattle.rows.specs.Counts.{IsPrefixLen};
 ghost use Rattle.rows.specs.Out.{Within};
 
 use rows::numbers::put_number;
 use rows::out::put_byte;
 
 // A negative one has a sign before it.
-pub(crate) fn put_integer(out: &mut [u8], at: usize, value: i64) -> usize
+pub(crate) fn put_integer(
+    rt: &(impl Print + Eprint),
+    out: &mut [u8],
+    at: usize,
+    value: i64,
+) -> usize
     ensures { Within out.new result }
 {
     if value < 0 {
-        let signed = put_byte(out, at, b'-');
-        return put_number(out, signed, magnitude(value));
+        let signed = put_byte(rt, out, at, b'-');
+        return put_number(rt, out, signed, magnitude(value));
     }
-    put_number(out, at, magnitude(value))
+    put_number(rt, out, at, magnitude(value))
 }
 
 // The value without its sign. That of the lowest is no `i64`: it is one more than the highest.

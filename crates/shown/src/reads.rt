@@ -23,6 +23,7 @@ pub fn is_literal_record(record: &[u8]) -> bool {
 
 // Four lines and an empty one. Of a record that is none nothing is printed; a buffer longer than what is lent has no byte.
 pub fn put_literals(
+    rt: &(impl Print + Eprint),
     out: &mut [u8],
     at: usize,
     record: &[u8],
@@ -38,6 +39,7 @@ pub fn put_literals(
     let length = number(record, 0) as usize;
     let n = filled(lent, number(record, 4) as usize);
     put_reads(
+        rt,
         out,
         at,
         &record[8..],
@@ -49,6 +51,7 @@ pub fn put_literals(
 }
 
 fn put_reads(
+    rt: &(impl Print + Eprint),
     out: &mut [u8],
     at: usize,
     text: &[u8],
@@ -59,32 +62,38 @@ fn put_reads(
 ) -> usize
     ensures { Within out.new result }
 {
-    let integer = put_integer_read(out, at, read_integer(text, start, length, profile));
-    let string = put_string_read(out, integer, text, start, length, profile, buffer);
-    let name = put_name_read(out, string, text, start, length, profile, buffer);
-    let blob = put_blob_read(out, name, text, start, length, profile, buffer);
-    put_byte(out, blob, b'\n')
+    let integer = put_integer_read(rt, out, at, read_integer(text, start, length, profile));
+    let string = put_string_read(rt, out, integer, text, start, length, profile, buffer);
+    let name = put_name_read(rt, out, string, text, start, length, profile, buffer);
+    let blob = put_blob_read(rt, out, name, text, start, length, profile, buffer);
+    put_byte(rt, out, blob, b'\n')
 }
 
-fn put_integer_read(out: &mut [u8], at: usize, answer: IntegerRead) -> usize
+fn put_integer_read(
+    rt: &(impl Print + Eprint),
+    out: &mut [u8],
+    at: usize,
+    answer: IntegerRead,
+) -> usize
     ensures { Within out.new result }
 {
-    let named = put(out, at, b"INTEGER\t");
-    let told = put_value(out, named, answer);
-    put_byte(out, told, b'\n')
+    let named = put(rt, out, at, b"INTEGER\t");
+    let told = put_value(rt, out, named, answer);
+    put_byte(rt, out, told, b'\n')
 }
 
-fn put_value(out: &mut [u8], at: usize, answer: IntegerRead) -> usize
+fn put_value(rt: &(impl Print + Eprint), out: &mut [u8], at: usize, answer: IntegerRead) -> usize
     ensures { Within out.new result }
 {
     match answer {
-        IntegerRead::Value(value) => put_integer(out, at, value),
-        IntegerRead::NotThatLiteral => put(out, at, b"NotThatLiteral"),
-        IntegerRead::OutOfRange => put(out, at, b"OutOfRange"),
+        IntegerRead::Value(value) => put_integer(rt, out, at, value),
+        IntegerRead::NotThatLiteral => put(rt, out, at, b"NotThatLiteral"),
+        IntegerRead::OutOfRange => put(rt, out, at, b"OutOfRange"),
     }
 }
 
 fn put_string_read(
+    rt: &(impl Print + Eprint),
     out: &mut [u8],
     at: usize,
     text: &[u8],
@@ -97,10 +106,11 @@ fn put_string_read(
 {
     unset(buffer);
     let answer = read_string(text, start, length, profile, buffer);
-    put_line(out, at, b"STRING", answer, buffer)
+    put_line(rt, out, at, b"STRING", answer, buffer)
 }
 
 fn put_name_read(
+    rt: &(impl Print + Eprint),
     out: &mut [u8],
     at: usize,
     text: &[u8],
@@ -113,10 +123,11 @@ fn put_name_read(
 {
     unset(buffer);
     let answer = read_name(text, start, length, profile, buffer);
-    put_line(out, at, b"NAME", answer, buffer)
+    put_line(rt, out, at, b"NAME", answer, buffer)
 }
 
 fn put_blob_read(
+    rt: &(impl Print + Eprint),
     out: &mut [u8],
     at: usize,
     text: &[u8],
@@ -129,5 +140,5 @@ fn put_blob_read(
 {
     unset(buffer);
     let answer = read_blob(text, start, length, profile, buffer);
-    put_line(out, at, b"BLOB", answer, buffer)
+    put_line(rt, out, at, b"BLOB", answer, buffer)
 }

@@ -18,51 +18,88 @@ pub fn is_write_record(length: usize) -> bool {
 }
 
 // Four lines and an empty one. A buffer longer than what is lent has no byte.
-pub fn put_writes(out: &mut [u8], at: usize, bytes: &[u8], length: usize, lent: &mut [u8]) -> usize
+pub fn put_writes(
+    rt: &(impl Print + Eprint),
+    out: &mut [u8],
+    at: usize,
+    bytes: &[u8],
+    length: usize,
+    lent: &mut [u8],
+) -> usize
     ensures { Within out.new result }
 {
     let n = filled(lent, length);
-    put_written(out, at, bytes, &mut lent[..n])
+    put_written(rt, out, at, bytes, &mut lent[..n])
 }
 
-fn put_written(out: &mut [u8], at: usize, bytes: &[u8], buffer: &mut [u8]) -> usize
+fn put_written(
+    rt: &(impl Print + Eprint),
+    out: &mut [u8],
+    at: usize,
+    bytes: &[u8],
+    buffer: &mut [u8],
+) -> usize
     ensures { Within out.new result }
 {
-    let string = put_string_written(out, at, bytes, buffer);
-    let name = put_name_written(out, string, bytes, buffer);
-    let blob = put_blob_written(out, name, bytes, buffer);
-    let integer = put_integer_written(out, blob, value_of(bytes), buffer);
-    put_byte(out, integer, b'\n')
+    let string = put_string_written(rt, out, at, bytes, buffer);
+    let name = put_name_written(rt, out, string, bytes, buffer);
+    let blob = put_blob_written(rt, out, name, bytes, buffer);
+    let integer = put_integer_written(rt, out, blob, value_of(bytes), buffer);
+    put_byte(rt, out, integer, b'\n')
 }
 
-fn put_string_written(out: &mut [u8], at: usize, bytes: &[u8], buffer: &mut [u8]) -> usize
+fn put_string_written(
+    rt: &(impl Print + Eprint),
+    out: &mut [u8],
+    at: usize,
+    bytes: &[u8],
+    buffer: &mut [u8],
+) -> usize
     ensures { Within out.new result }
 {
     unset(buffer);
     let answer = read_of(write_string(bytes, buffer));
-    put_line(out, at, b"STRING", answer, buffer)
+    put_line(rt, out, at, b"STRING", answer, buffer)
 }
 
-fn put_name_written(out: &mut [u8], at: usize, bytes: &[u8], buffer: &mut [u8]) -> usize
+fn put_name_written(
+    rt: &(impl Print + Eprint),
+    out: &mut [u8],
+    at: usize,
+    bytes: &[u8],
+    buffer: &mut [u8],
+) -> usize
     ensures { Within out.new result }
 {
     unset(buffer);
     let answer = read_of(write_name(bytes, buffer));
-    put_line(out, at, b"NAME", answer, buffer)
+    put_line(rt, out, at, b"NAME", answer, buffer)
 }
 
-fn put_blob_written(out: &mut [u8], at: usize, bytes: &[u8], buffer: &mut [u8]) -> usize
+fn put_blob_written(
+    rt: &(impl Print + Eprint),
+    out: &mut [u8],
+    at: usize,
+    bytes: &[u8],
+    buffer: &mut [u8],
+) -> usize
     ensures { Within out.new result }
 {
     unset(buffer);
     let answer = read_of(write_blob(bytes, buffer));
-    put_line(out, at, b"BLOB", answer, buffer)
+    put_line(rt, out, at, b"BLOB", answer, buffer)
 }
 
-fn put_integer_written(out: &mut [u8], at: usize, value: i64, buffer: &mut [u8]) -> usize
+fn put_integer_written(
+    rt: &(impl Print + Eprint),
+    out: &mut [u8],
+    at: usize,
+    value: i64,
+    buffer: &mut [u8],
+) -> usize
     ensures { Within out.new result }
 {
     unset(buffer);
     let answer = read_of(write_integer(value, buffer));
-    put_line(out, at, b"INTEGER", answer, buffer)
+    put_line(rt, out, at, b"INTEGER", answer, buffer)
 }
