@@ -3,7 +3,7 @@ use Prim.Native.Nat.{ℕ, suc, ◌+◌, ◌-◌, ◌≤◌, ◌<◌}
 use native.Mathlib.Omega.{arith}
 use mathlib.Core.Path.{◌≡◌, refl, sym, ◌∙◌, ap, subst}
 use mathlib.Core.Bool.{Bool, true, false, cond}
-use mathlib.Core.List.{List, [], ◌∷◌, ◌++◌}
+use mathlib.Core.List.{List, [], ◌∷◌}
 use lib.ListN.{length, take, drop, length-append}
 use lib.Seq.{take-append_seam}
 use borrow.Author.Tests.{lt-ltb, le-ltb}
@@ -15,9 +15,9 @@ use Rattle.intake.specs.declared.state.Stream.{Stream}
 use Rattle.stream.specs.declared.stream.Given.{Given}
 use Rattle.stream.specs.declared.stream.Answer.TheVariants.{More}
 use Rattle.intake.specs.Takes.{is_over, is_ready, takes, front, waiting, taken_of, text_of, read_then, ready_then}
-use Rattle.stream.specs.Calls.{Course, refuse_closed, refuse_part, ask_more, refuse_lexeme, lex, most, is_open, is_closed, offering, finishing}
+use Rattle.stream.specs.Calls.{Course, refuse_closed, refuse_part, ask_more, refuse_lexeme, lex, most, is_open, is_closed, offering}
 use Rattle.stream.specs.Calls.{Refuses, Answers, Goes, closed, holding, ended, moved, Offered, Finished}
-use Rattle.intake.proofs.TakeLaws.{unready-room, behind-short}
+use Rattle.intake.proofs.TakeLaws.{unready-room}
 
 -- what is taken stays in the part and in the row
 pub takes_part : (full : ℕ) (p : Profile) (r : Reading) (h : ℕ) (part : List ℕ) → takes full p r h part ≤ length part

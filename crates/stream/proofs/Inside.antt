@@ -1,5 +1,6 @@
 -- What Next gives for a text at its beginning lies inside the text. Assumes nothing.
 use Prim.Native.Nat.{ℕ, ◌+◌, ◌-◌, ◌≤◌, ◌<◌}
+use Prim.Native.Char.{code}
 use native.Mathlib.Omega.{arith}
 use mathlib.Core.Path.{◌≡◌, refl, ◌∙◌, ap, subst}
 use mathlib.Core.List.{List, [], ◌∷◌}
@@ -9,7 +10,7 @@ use lib.Seq.{length-take-le}
 use Rattle.keywords.proofs.Logic.{split}
 use Rattle.grammar.specs.declared.profile.Profile.{Profile}
 use Rattle.grammar.specs.declared.profile.Profile.TheVariants.{Turso, Sqlite}
-use Rattle.grammar.specs.Form.{Set, holds, ◌·◌, lit, one_of, Single, Has}
+use Rattle.grammar.specs.Form.{Set, byte, holds, ◌·◌, lit, one_of, Single, Has}
 use Rattle.grammar.specs.Classes.{Class, blank_run, line_comment, block_comment, operator, string, quoted_name, integer, float, blob, parameter}
 use Rattle.grammar.specs.Classes.{word, illegal, unrecognized, bang, open_quote, open_blob, odd_blob, bad_parameter, underscore, word_after_integer}
 use Rattle.grammar.specs.Classes.{word_after_fraction, no_exponent, word_after_exponent, no_hexdigit, underscore_after_x, hex_underscore, word_after_hex}
@@ -48,7 +49,7 @@ zero-x-long w (u, v, e, (a, b, f, (c, d, g, x, y), z), t) =
     let i = ap length e ∙ length-append u v in
     let j = ap length f ∙ length-append a b in
     let k = ap length g ∙ length-append c d in
-    omega (arith, one_byte _ c x, one_byte _ b z)
+    omega (arith, one_byte (byte (code "0")) c x, one_byte (one_of "xX") b z)
 
 module _ (p : Profile) where
   -- A token that Next gives at a text's beginning starts there, is the longest lexeme, and lexing goes on behind it.

@@ -13,6 +13,7 @@ use lexer::next::next;
 use readings::reading::Reading;
 
 // Where the token given last ends: so many bytes were taken but for those held behind it.
+#[tactic(auto, unfolding(crate::specs::Calls::last_end))]
 pub(crate) fn last_end(stream: Stream) -> usize
     ensures { (result ≡ last_end stream) × (result ≤ 4294967295) }
 {
@@ -95,6 +96,7 @@ pub(crate) fn refuse_closed(stream: Stream) -> Given
     }
 }
 
+#[tactic(auto, unfolding(crate::specs::Calls::last_end))]
 pub(crate) fn refuse_part(stream: Stream) -> Given
     ensures { Refuses (closed stream) 0 "TooLong" result }
 {
@@ -106,6 +108,7 @@ pub(crate) fn refuse_part(stream: Stream) -> Given
     }
 }
 
+#[tactic(auto, unfolding(crate::specs::Calls::last_end))]
 pub(crate) fn refuse_lexeme(stream: Stream, taken: usize) -> Given
     ensures { Refuses (closed stream) taken "LexemeTooLong" result }
 {
