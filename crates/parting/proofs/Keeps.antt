@@ -8,7 +8,7 @@ use mathlib.Core.List.{List, [], ◌∷◌, ◌++◌, append-nil, append_assoc}
 use mathlib.Core.Logic.{◌⊎◌, inl, inr, ⊎_elim}
 use lib.Dec.{eqb, leb, ltb}
 use lib.ListN.{length, take, drop, get_or, length-append, length-drop}
-use lib.Seq.{length-take-le, take-append_seam, drop-append-le, drop-drop, take-length, drop-cons, take-append-add, take-append-le, take-take, take-suc}
+use lib.Seq.{length-take-le, take-append_seam, drop-append-le, drop-drop, take-append-add, take-append-le, take-take, take-suc}
 use borrow.Author.Tests.{ne_eqb, eqb-true, eqb-false, leb-true, leb-false, ltb-true, ltb-false}
 use Rattle.keywords.proofs.Logic.{split}
 use Rattle.grammar.specs.declared.profile.Profile.{Profile}
@@ -26,8 +26,8 @@ use Rattle.stream.specs.declared.stream.Given.{Given}
 use Rattle.stream.specs.Refusals.{own}
 use Rattle.parting.specs.Means.{Says, Settled, Open}
 use Rattle.intake.specs.Takes.{limit, room, is_over, is_ready, takes, front, waiting, read_now, taken_of, text_of, read_then, ready_then}
-use Rattle.stream.specs.Calls.{Told, more, tells, values_of, most, begun, last_end, shift, passed, after, holding, ended, closed}
-use Rattle.stream.specs.Calls.{moved, Refuses, Wants, Answers, Goes, refuse_closed, refuse_part, ask_more, refuse_lexeme, lex, Course, is_open, is_closed, offering, Offered, Finished}
+use Rattle.stream.specs.Calls.{Told, more, tells, values_of, most, begun, last_end, shift, passed, after, ended, closed}
+use Rattle.stream.specs.Calls.{moved, Answers, Goes, refuse_closed, ask_more, refuse_lexeme, lex, Course, is_open, is_closed, Offered, Finished}
 use Rattle.parting.specs.Histories.{Offers}
 use Rattle.intake.proofs.TakeLaws.{unready-room}
 use Rattle.stream.proofs.CallLaws.{takes_part, takes-room, allowed}

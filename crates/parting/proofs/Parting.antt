@@ -1,17 +1,16 @@
 -- Two walks over one text: one is an opening of the other; that both end where nothing more is said, they are the same. Assumes nothing.
-use Prim.Native.Nat.{ℕ, ◌+◌, ◌≤◌, ◌<◌}
-use native.Mathlib.Omega.{arith}
+use Prim.Native.Nat.{ℕ, ◌+◌, ◌≤◌}
 use mathlib.Core.Path.{◌≡◌, refl, sym, ◌∙◌, ap, subst}
-use mathlib.Core.Bool.{Bool, true, false, true≢false}
+use mathlib.Core.Bool.{false, true≢false}
 use mathlib.Core.List.{List, [], ◌∷◌, ◌++◌, append-nil}
 use mathlib.Core.Logic.{◌⊎◌, inl, inr, ⊎_elim}
-use lib.ListN.{length, take, drop}
+use lib.ListN.{take, drop}
 use Rattle.grammar.specs.declared.profile.Profile.{Profile}
 use Rattle.grammar.specs.Classes.{rules}
-use Rattle.grammar.specs.Answers.{Answer, token, end, refusal, answer}
-use Rattle.grammar.specs.Longest.{Longest, Source, source, Next}
+use Rattle.grammar.specs.Answers.{Answer, answer}
+use Rattle.grammar.specs.Longest.{Source, source, Next}
 use Rattle.grammar.proofs.Tokens.{told}
-use Rattle.grammar.proofs.Unique.{longest-unique, gives-unique}
+use Rattle.grammar.proofs.Unique.{gives-unique}
 use Rattle.walks.specs.Walk.{Legal, Goes, token_of, Passes}
 use Rattle.walks.proofs.WalkLaws.{legal_of}
 use Rattle.intake.specs.Takes.{limit}

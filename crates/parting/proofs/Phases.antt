@@ -3,7 +3,7 @@ use Prim.Native.Nat.{ℕ}
 use mathlib.Core.Path.{◌≡◌, refl, sym, ◌∙◌, ap, subst}
 use mathlib.Core.Bool.{Bool, true, false, cond, not, true≢false}
 use mathlib.Core.List.{List, [], ◌∷◌, ◌++◌}
-use mathlib.Core.Logic.{◌⊎◌, inl, inr, ⊎_elim}
+use mathlib.Core.Logic.{inl, inr}
 use lib.Dec.{eqb}
 use lib.ListN.{length, take, drop}
 use Rattle.grammar.specs.declared.profile.Profile.{Profile}
@@ -15,8 +15,8 @@ use Rattle.intake.specs.declared.state.Phase.{Phase}
 use Rattle.intake.specs.declared.state.Stream.{Stream}
 use Rattle.intake.specs.Takes.{waiting, taken_of, text_of}
 use Rattle.stream.specs.declared.stream.Given.{Given}
-use Rattle.stream.specs.Refusals.{stream_refusal, own}
-use Rattle.stream.specs.Calls.{Told, more, tells, values_of, shift, after, ended, moved, is_open, is_closed, Course, refuse_closed, refuse_part, ask_more}
+use Rattle.stream.specs.Refusals.{stream_refusal}
+use Rattle.stream.specs.Calls.{Told, tells, values_of, shift, after, ended, moved, is_open, is_closed, Course, refuse_closed, refuse_part, ask_more}
 use Rattle.stream.specs.Calls.{refuse_lexeme, lex, Goes, offering, finishing, Offered, Finished}
 use Rattle.parting.specs.Histories.{Call, offer, finish, Event, Made, Calls, stream_after, closing_in, closings, is_offer, Unfinished}
 use Rattle.parting.proofs.Walks.{closed-stays, refusing-says}

@@ -1,26 +1,24 @@
 -- A row is filled to its last byte: `$`, 2,047 letters and `:(`. Not before the `(` it is settled that the parameter ends before the colon.
 -- Assumes nothing.
-use Prim.Native.Nat.{ℕ, zero, suc, ◌+◌, ◌-◌, ◌≤◌}
+use Prim.Native.Nat.{ℕ, zero, suc, ◌+◌, ◌≤◌}
 use native.Mathlib.Omega.{arith}
 use native.Mathlib.Nat.{add-zero, zero-add}
 use mathlib.Core.Path.{◌≡◌, refl, sym, ◌∙◌, ap, subst}
-use mathlib.Core.Bool.{Bool, true, false, cond, ◌||◌}
+use mathlib.Core.Bool.{Bool, true, false, cond}
 use mathlib.Core.List.{List, [], ◌∷◌, ◌++◌}
-use lib.Dec.{leb}
-use lib.ListN.{length, take, replicate, length-append, length-replicate}
+use lib.ListN.{length, replicate, length-append, length-replicate}
 use lib.Seq.{take_all}
 use borrow.Author.Tests.{le-leb, lt-leb}
 use Rattle.words.specs.Bytes.{is_digit, is_hexdigit, is_identifier_start, is_identifier_continue, is_blank}
 use Rattle.grammar.specs.declared.profile.Profile.{Profile}
 use Rattle.grammar.specs.declared.profile.Profile.TheVariants.{Turso, Sqlite}
-use Rattle.readings.specs.declared.reading.Reading.{Reading}
 use Rattle.readings.specs.declared.reading.Reading.TheVariants.{Start, Named}
 use Rattle.readings.specs.declared.reading.Named.TheVariants.{Sigil, Name, NameColon}
 use Rattle.readings.specs.Arrows.{onward, is_lexeme, is_settled}
 use Rattle.intake.specs.declared.state.Stream.{Stream}
 use Rattle.stream.specs.declared.stream.Given.{Given}
 use Rattle.intake.specs.Takes.{limit, room, is_over, is_ready, takes, taken_of, text_of, read_then, ready_then}
-use Rattle.stream.specs.Calls.{most, begun, moved, Course, refuse_lexeme, lex, ask_more, Goes, Answers, after, Offered}
+use Rattle.stream.specs.Calls.{begun, moved, Course, refuse_lexeme, lex, ask_more, Goes, Offered}
 use Rattle.stream.proofs.HeldLaws.{answers-held}
 use Rattle.stream.proofs.CallLaws.{allowed}
 

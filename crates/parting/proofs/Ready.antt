@@ -1,5 +1,5 @@
 -- When what a stream says at a place is settled. Assumes nothing.
-use Prim.Native.Nat.{ℕ, ◌+◌, ◌-◌, ◌≤◌, ◌<◌}
+use Prim.Native.Nat.{ℕ, ◌+◌, ◌≤◌, ◌<◌}
 use native.Mathlib.Omega.{arith}
 use mathlib.Core.Path.{◌≡◌, refl, sym, ◌∙◌, ap, subst}
 use mathlib.Core.Bool.{Bool, true, false, ◌||◌, true≢false}
@@ -7,13 +7,13 @@ use mathlib.Core.List.{List, [], ◌∷◌, ◌++◌, append-nil}
 use mathlib.Core.Logic.{◌⊎◌, inl, inr, ⊎_elim}
 use lib.Dec.{leb, eqb}
 use lib.ListN.{length, take, drop, length-append, length-drop}
-use lib.Seq.{take-length, take-append-le, drop-append-le, length-take-le}
+use lib.Seq.{take-length, take-append-le, drop-append-le}
 use borrow.Author.Tests.{leb-true, leb-false, le-leb, lt-leb, eqb-true, eqb-false}
 use Rattle.keywords.proofs.Logic.{split}
 use Rattle.grammar.specs.declared.profile.Profile.{Profile}
 use Rattle.grammar.specs.Classes.{Class, rules}
-use Rattle.grammar.specs.Answers.{Answer, token, end, refusal, answer, first, init}
-use Rattle.grammar.specs.Longest.{Stands, anywhere, Longest, Gives}
+use Rattle.grammar.specs.Answers.{Answer, end, answer}
+use Rattle.grammar.specs.Longest.{Longest, Gives}
 use Rattle.ahead.specs.Ahead.{look_ahead, span_end}
 use Rattle.readings.specs.declared.reading.Reading.{Reading}
 use Rattle.readings.specs.Arrows.{reading, is_lexeme, is_settled}

@@ -6,13 +6,13 @@
 -- `parts-refused`, what is refused behind an end and behind a finish call; `bounded`, and `reached` in Reached.antt, what is held.
 -- Of two partings of the same bytes: `same-tokens`, one gave the tokens of the other or the first of them; `same-at-more`, `same-at-end`, both
 -- gave the same. That each answer is unique is said by the theorems of `stream`. Assumes nothing.
-use Prim.Native.Nat.{ℕ, ◌+◌, ◌-◌, ◌≤◌, ◌<◌}
+use Prim.Native.Nat.{ℕ, ◌+◌, ◌≤◌, ◌<◌}
 use native.Mathlib.Omega.{arith}
 use mathlib.Core.Path.{◌≡◌, refl, sym, ◌∙◌, ap, subst}
 use mathlib.Core.Bool.{Bool, true, false, cond, not, true≢false}
 use mathlib.Core.List.{List, [], ◌∷◌, ◌++◌, append-nil}
 use mathlib.Core.Logic.{◌⊎◌, inl, inr, ⊎_elim}
-use lib.Dec.{eqb, leb, ltb}
+use lib.Dec.{eqb, leb}
 use lib.ListN.{length, take, drop, length-append, length-drop}
 use borrow.Author.Tests.{leb-false}
 use Rattle.keywords.proofs.Logic.{split}
@@ -30,8 +30,8 @@ use Rattle.stream.specs.Refusals.{stream_refusal, own}
 use Rattle.parting.specs.Means.{Says, Settled, Open}
 use Rattle.intake.specs.Takes.{limit, room, taken_of}
 use Rattle.stream.specs.Calls.{Told, more, tells, values_of, most, begun, last_end, closed, is_open, is_closed, Refuses, Offered, Finished}
-use Rattle.parting.specs.Histories.{Offers, Call, offer, finish, Event, Made, Calls, stream_after, row_after, taken_by, taken, tokens, closing_in, closings}
-use Rattle.parting.specs.Histories.{end_of, last_of, Short, Walked, Unfinished}
+use Rattle.parting.specs.Histories.{Offers, Call, Event, Made, Calls, stream_after, row_after, taken, tokens, closing_in, closings}
+use Rattle.parting.specs.Histories.{last_of, Short, Walked, Unfinished}
 use Rattle.parting.proofs.Ready.{some_byte, says-unique, says_some}
 use Rattle.parting.proofs.Keeps.{Keeps, Left, begins, last-is, held-limit, offered, finished}
 use Rattle.parting.proofs.Walks.{is_token, is_more, answer_in, From, goings, part-refused, part-too-long, closed-refuses}

@@ -4,31 +4,29 @@ use native.Mathlib.Omega.{arith}
 use mathlib.Core.Path.{◌≡◌, refl, sym, ◌∙◌, ap, subst}
 use mathlib.Core.Bool.{Bool, true, false, cond, true≢false}
 use mathlib.Core.List.{List, [], ◌∷◌, ◌++◌, append-nil, append_assoc}
-use mathlib.Core.Logic.{◌⊎◌, inl, inr, ⊎_elim}
+use mathlib.Core.Logic.{◌⊎◌, inl, inr}
 use lib.Dec.{eqb, leb, ltb}
 use lib.ListN.{length, take, drop, length-append, length-drop}
-use borrow.Author.Tests.{lt-ltb, le-ltb, leb-true, leb-false, ltb-true, ltb-false}
+use borrow.Author.Tests.{lt-ltb, ltb-true, ltb-false}
 use Rattle.keywords.proofs.Logic.{split}
 use Rattle.grammar.specs.declared.profile.Profile.{Profile}
-use Rattle.grammar.specs.Classes.{Class, rules}
 use Rattle.grammar.specs.Answers.{Answer, token, end, refusal, answer}
-use Rattle.grammar.specs.Longest.{Every, Longest, Gives, source, Next}
-use Rattle.walks.specs.Walk.{Legal, token_of, Passes}
+use Rattle.grammar.specs.Longest.{Every, source, Next}
+use Rattle.walks.specs.Walk.{Legal, Passes}
 use Rattle.intake.specs.declared.state.Phase.{Phase}
 use Rattle.intake.specs.declared.state.Phase.TheVariants as Ph
 use Rattle.intake.specs.declared.state.Stream.{Stream}
 use Rattle.stream.specs.declared.stream.Given.{Given}
 use Rattle.stream.specs.Refusals.{stream_refusal, own}
-use Rattle.parting.specs.Means.{within, Lexeme, Says, Settled, Open}
-use Rattle.intake.specs.Takes.{limit, room, waiting, taken_of, text_of, front}
-use Rattle.stream.specs.Calls.{Told, more, tells, values_of, most, begun, last_end, closed, ended, moved, is_open, is_closed, Course, refuse_closed}
-use Rattle.stream.specs.Calls.{refuse_part, lex, Goes, offering, finishing, Refuses, Offered, Finished}
+use Rattle.parting.specs.Means.{Says, Settled, Open}
+use Rattle.intake.specs.Takes.{limit, waiting, taken_of, text_of}
+use Rattle.stream.specs.Calls.{Told, more, tells, values_of, most, last_end, closed, ended, moved, is_open, is_closed, refuse_closed}
+use Rattle.stream.specs.Calls.{refuse_part, lex, Goes, Refuses, Offered, Finished}
 use Rattle.parting.specs.Histories.{Offers, Call, offer, finish, Event, Made, Calls, stream_after, taken_by, taken, token_in, tokens, closing_in, closings}
-use Rattle.parting.specs.Histories.{Short, Walked, is_offer, Unfinished}
-use Rattle.stream.proofs.Inside.{token-long}
+use Rattle.parting.specs.Histories.{Short, is_offer, Unfinished}
 use Rattle.parting.proofs.Ready.{some_byte, says-unique, says_some}
 use Rattle.stream.proofs.CallLaws.{taking}
-use Rattle.parting.proofs.Keeps.{Keeps, Left, begins, last-is, offered, finished}
+use Rattle.parting.proofs.Keeps.{Keeps, Left, last-is, offered, finished}
 
 -- what is settled is said of every longer text
 pub settled_says : (p : Profile) (s t : List ℕ) (at : ℕ) (a : Answer) → at ≤ length s → Settled p s at → Says p s at a → Says p (s ++ t) at a
