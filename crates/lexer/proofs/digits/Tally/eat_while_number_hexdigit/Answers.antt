@@ -32,7 +32,7 @@ returns-then-not-sees_hexdigit c =
     let seen = sym c.sees.ensures ∙ c.if-not-sees.false in
     let one_on = c.eat-next.ensures ∙ moved-one _ _ _ seen in
     let missed = sym c.sees_hexdigit.ensures ∙ c.if-not-sees_hexdigit.true in
-    sym (c.loop-start.invariant.0 ∙ hex-bad _ c.loop-start.start.at _ _ _ c.eat_while_hexdigit-end.ensures seen c.if-start-end.false _ one_on missed)
+    sym (c.loop-start.invariant.0 ∙ hex-bad _ c.loop-start.start.at _ _ _ c.eat_while_hexdigit-end.ensures seen (omega arith) _ one_on missed)
 
 pub overflow_add-underscores : goal.overflow_add-underscores
 overflow_add-underscores c =
@@ -54,6 +54,6 @@ loop-start-preserved c =
     let seen = sym c.sees.ensures ∙ c.if-not-sees.false in
     let one_on = c.eat-next.ensures ∙ moved-one _ _ _ seen in
     let more = sym c.sees_hexdigit.ensures ∙ c.if-not-sees_hexdigit.false in (
-      loop.invariant.0 ∙ hex-more _ loop.start.at _ _ _ end.ensures seen c.if-start-end.false _ one_on more,
+      loop.invariant.0 ∙ hex-more _ loop.start.at _ _ _ end.ensures seen (omega arith) _ one_on more,
       omega (arith, loop.invariant.1, over-on _ _ _ _ end.ensures, one_on),
     )
