@@ -1,44 +1,63 @@
 #!/usr/bin/env python3
-"""bench/exported.py SOURCE MODULE: the LLVM module, as text, of a library that was compiled as a program, without its main and with the
-functions that C calls: those that SOURCE marks no_mangle. They are made as the kit makes them for an archive: a slice is two parameters,
-its address and its length, which are put into memory for the function in Rattle."""
+"""bench/exported.py main SOURCE: a main in Rattle that calls the functions which SOURCE exports to C, each once, so that `rt try` compiles
+them.
+bench/exported.py module SOURCE MODULE: the LLVM module, as text, of a library that was compiled as a program with that main, without it and
+with these functions as C calls them."""
 import re
 import sys
 
 EXPORTED = re.compile(r'#\[unsafe\(no_mangle\)\]\s+pub extern "C" fn (\w+)\((.*?)\)\s*->', re.S)
-SLICE = re.compile(r"&(mut )?\[\w+\]$")
+RECORD = "Record { kind: 0, start: 0, length: 0, line: 0, column: 0 }"
+
+
+def some(type):
+    """A value of a type, whatever it is."""
+    if type == "Record":
+        return RECORD
+    array = re.fullmatch(r"\[(\w+)(?:; (\d+))?\]", type)
+    return f"[{some(array[1])}; {array[2] or 1}]" if array else "false" if type == "bool" else f"0{type}"
+
+
+def calls(source):
+    """A slice or a reference is of a variable of its own."""
+    body = []
+    for name, parameters in EXPORTED.findall(source):
+        passed = []
+        for parameter in filter(None, map(str.strip, parameters.split(","))):
+            type = parameter.split(": ")[1]
+            lent = re.fullmatch(r"&(mut )?(.*)", type)
+            if lent:
+                body.append(f"    let {lent[1] or ''}v{len(body)} = {some(lent[2])};")
+                passed.append(f"&{lent[1] or ''}v{len(body) - 1}")
+            else:
+                passed.append(some(type))
+        body.append(f"    let _r{len(body)} = {name}({', '.join(passed)});")
+    return "\nfn main() {\n" + "\n".join(body) + "\n}"
 
 
 def without(code, name):
-    return re.sub(rf"(?ms)^define [^\n]*@{re.escape(name)}\(\) #0 \{{\n.*?^\}}\n", "", code)
+    return re.sub(rf"(?ms)^define [^\n]*@{re.escape(name)}\(\)[^\n]* \{{\n.*?^\}}\n", "", code)
 
 
-def call(code, name, parameters):
-    """The function that C calls: `code` has the one in Rattle, whose parameters are written `parameters` in the source."""
-    head = re.search(rf'(?m)^define internal noundef (zeroext )?(\w+) @"(\w+::{name})"\((.*)\) #0', code)
-    extension, result, inner = head[1] or "", head[2], head[3]
-    kinds = [kind.split()[0] for kind in head[4].split(", ")]
-    written = [part.strip() for part in parameters.split(",") if part.strip()]
-    taken, passed, body = [], [], []
-    for parameter, kind in zip(written, kinds, strict=True):
-        at = len(taken)
-        taken.append(f"{kind} noundef %a{at}")
-        if SLICE.search(parameter):
-            taken.append(f"i64 noundef %a{at + 1}")
-            passed.append(f"ptr %s{at}")
-            body += [f"%s{at} = alloca [16 x i8], align 8", f"store ptr %a{at}, ptr %s{at}, align 8",
-                     f"%l{at} = getelementptr i8, ptr %s{at}, i64 8", f"store i64 %a{at + 1}, ptr %l{at}, align 8"]
-        else:
-            passed.append(f"{kind} %a{at}")
-    body += [f'%r = call {result} @"{inner}"({", ".join(passed)})', f"ret {result} %r"]
-    return f"define noundef {extension}{result} @{name}({', '.join(taken)}) #0 {{\n  " + "\n  ".join(body) + "\n}\n"
+def exported(code, name):
+    """The module with a function in Rattle as one that C calls, under its own name: a slice is two parameters in both."""
+    code, found = re.subn(rf'(?m)^define internal (.*)@"\w+::{name}"\(', rf"define \1@{name}(", code)
+    if found != 1:
+        raise SystemExit(f"exported: the module has {found} functions {name}")
+    return re.sub(rf'@"\w+::{name}"\(', f"@{name}(", code)
 
 
-def main(source, module):
-    code = open(module).read()
+def main(what, source, *module):
+    source = open(source).read()
+    if what == "main":
+        print(calls(source))
+        return
+    code = open(*module).read()
     for name in "main", re.search(r'@("\w+::main")\(\)', code)[1]:
         code = without(code, name)
-    print(code + "\n".join(call(code, *found) for found in EXPORTED.findall(open(source).read())))
+    for name, _ in EXPORTED.findall(source):
+        code = exported(code, name)
+    print(code)
 
 
 main(*sys.argv[1:])
