@@ -1,16 +1,16 @@
 -- A token's bytes by themselves are the same token. Assumes nothing.
-use Prim.Native.Nat.{ℕ, zero, suc, ◌+◌, ◌≤◌, ◌<◌}
+use Prim.Native.Nat.{ℕ, ◌+◌}
 use native.Mathlib.Omega.{arith}
-use mathlib.Core.Path.{◌≡◌, refl, sym, ◌∙◌, ap, subst}
+use mathlib.Core.Path.{◌≡◌, sym, ◌∙◌, ap, subst}
 use mathlib.Core.Bool.{false}
 use mathlib.Core.List.{List}
-use mathlib.Core.Logic.{inl, inr}
-use lib.ListN.{length, get_or, take, drop, length-drop}
+use mathlib.Core.Logic.{inr}
+use lib.ListN.{length, take, drop}
 use lib.Seq.{length-take-le, take_all}
 use Rattle.keywords.specs.Kinds.{kind}
 use Rattle.grammar.specs.declared.profile.Profile.{Profile}
 use Rattle.grammar.specs.Classes.{Class, rules, malformed}
-use Rattle.grammar.specs.Answers.{Answer, token, answer}
+use Rattle.grammar.specs.Answers.{token, answer}
 use Rattle.grammar.specs.Longest.{anywhere, Stands, Longest, Gives}
 use Rattle.grammar.proofs.Lexemes as Lexemes
 use Rattle.grammar.proofs.Theorems.{sound, one_class, look-ahead}

@@ -11,7 +11,7 @@ use lib.ListN.{length}
 use borrow.Author.Tests.{eq-eqb, ltb-true}
 use Rattle.keywords.proofs.Logic.{split, and_left, and_right, every}
 use Rattle.words.specs.Bytes.{is_digit, is_hexdigit}
-use Rattle.grammar.specs.Form.{Set, D, H, no, one_of, holds, Has, stop, more, one, ◌·◌, ◌∣◌, many, text, lit, run, some}
+use Rattle.grammar.specs.Form.{Set, D, H, no, holds, Has, stop, more, one, ◌·◌, ◌∣◌, many, text, lit, run, some}
 use Rattle.grammar.specs.Classes.{dig, hex_integer, opened, x}
 use Rattle.hexdigits.specs.Digits.{digit}
 use Rattle.hexdigits.proofs.DigitLaws.{all_below, below_at}

@@ -1,20 +1,19 @@
 -- A token that a stream gives stands at the row's front, and is by itself that token: the calls that read literals take it from there.
 -- Assumes nothing.
-use Prim.Native.Nat.{ℕ, ◌+◌, ◌≤◌}
+use Prim.Native.Nat.{ℕ, ◌+◌}
 use native.Mathlib.Omega.{arith}
 use Prim.Native.String.{String}
-use mathlib.Core.Path.{◌≡◌, refl, sym, ◌∙◌, ap, subst}
-use mathlib.Core.List.{List, ◌++◌}
+use mathlib.Core.Path.{◌≡◌, sym, ◌∙◌, subst}
+use mathlib.Core.List.{List}
 use lib.ListN.{length, take, drop}
 use lib.Seq.{take-append-le}
-use Rattle.grammar.specs.declared.profile.Profile.{Profile}
 use Rattle.grammar.specs.Classes.{rules}
 use Rattle.grammar.specs.Answers.{Answer, token, end, refusal}
 use Rattle.grammar.specs.Longest.{Gives}
 use Rattle.intake.specs.declared.state.Stream.{Stream}
 use Rattle.intake.specs.Takes.{front}
 use Rattle.stream.specs.declared.stream.Given.{Given}
-use Rattle.stream.specs.Calls.{Told, more, tells, values_of, last_end, shift, Refuses, Wants, Answers, Course, refuse_closed, refuse_part, ask_more, refuse_lexeme, lex}
+use Rattle.stream.specs.Calls.{tells, values_of, last_end, shift, Refuses, Course, refuse_closed, refuse_part, ask_more, refuse_lexeme, lex}
 use Rattle.stream.specs.Calls.{Goes, offering, finishing, moved, Offered, Finished}
 use Rattle.stream.proofs.Inside.{token-long}
 use Rattle.spans.specs.Spans.{IsTokenWith}

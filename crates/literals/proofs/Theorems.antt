@@ -3,7 +3,7 @@
 -- is taken, its bytes by themselves read the same (`integer-alone` and the others); so does a token that a stream gives, from the row's front (`offered-alone`,
 -- `finished-alone` in Row.antt). That each call has one result is said by the theorems of integers, strings and blobs; that a legal literal,
 -- read and written again, is itself, by `again` there. Assumes nothing.
-use Prim.Native.Nat.{ℕ, ◌^◌, ◌≤◌, ◌<◌}
+use Prim.Native.Nat.{ℕ, ◌^◌, ◌<◌}
 use native.Mathlib.Omega.{arith}
 use mathlib.Core.Path.{◌≡◌, refl, sym, ◌∙◌, ap, subst}
 use mathlib.Core.Bool.{true}
@@ -21,7 +21,7 @@ use Rattle.grammar.specs.declared.profile.Profile.{Profile}
 use Rattle.grammar.specs.declared.profile.Profile.TheVariants.{Turso, Sqlite}
 use Rattle.grammar.specs.Form.{one_of}
 use Rattle.buffers.specs.declared.written.Written.TheVariants.{Length}
-use Rattle.buffers.specs.Buffers.{Said, valued, Fills}
+use Rattle.buffers.specs.Buffers.{Said, Fills}
 use Rattle.buffers.proofs.Theorems.{written-part}
 use Rattle.spans.specs.Spans.{span, is_quote, IsToken, IsName, Reads, ReadsBytes, said_of}
 use Rattle.spans.proofs.TokenLaws.{span-long}
