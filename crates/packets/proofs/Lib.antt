@@ -1,2 +1,1 @@
-pub mod StateLaws
 pub mod Theorems
