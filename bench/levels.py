@@ -5,7 +5,7 @@ import re
 from machines import ROOT
 
 FUNCTION = re.compile(r"(?ms)^(?:pub(?:\(\w+\))? )?fn (\w+)\((.*?)\)(.*?)^\{(.*?)^\}")
-LIMIT = re.compile(r"requires \{ ⌜ [^⌝]*\(depth ≤ (\d+)\)[^⌝]*⌝ \}")
+LIMIT = re.compile(r"requires \{ [^{}]*\(depth ≤ (\d+)\)[^{}]* \}")
 
 
 def no_bound(why):
