@@ -51,6 +51,7 @@ def module_for(machine, kept, apart):
         code = re.sub(r"(?m)^target datalayout.*", f'target datalayout = "{M4_LAYOUT}"', code)
         code = re.sub(r"(?m)^target triple.*", f'target triple = "{M4_TARGET}"', code)
         code = re.sub(r' "(probe-stack|target-cpu)"="[^"]*"', "", code)
+        code = code.replace(" ptrtoaddr ptr ", " ptrtoint ptr ")  # which wants a usize as wide as an address
     text.write_text(code)
     return text
 
