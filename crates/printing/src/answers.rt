@@ -21,7 +21,7 @@ use rows::out::{filled, put, put_byte};
 use words::lookup::{is_quotable_keyword, keyword_or_id_token};
 
 // How a text is walked: by `next`; so, and with each token's digits and underscores; with them, by a reader.
-#[derive(Drop)]
+#[derive(Clone, Copy)]
 pub enum Way {
     Next,
     Sums,
@@ -30,6 +30,7 @@ pub enum Way {
 
 // A line for each token, then END, the offset and the number of tokens, or the refusal, its span and the offset.
 pub(crate) fn put_walk(
+    rt: &(impl Print + Eprint),
     out: &mut [u8],
     at: usize,
     names: &[u8; 2992],
@@ -53,18 +54,18 @@ pub(crate) fn put_walk(
                 digits,
                 underscores,
             } => {
-                end = put_token(out, end, names, kind, start, length);
-                end = put_counts(out, end, way, digits, underscores);
+                end = put_token(rt, out, end, names, kind, start, length);
+                end = put_counts(rt, out, end, way, digits, underscores);
                 tokens += 1;
                 cursor = next;
             }
-            Lexed::End { next } => return put_end(out, end, next.at, tokens),
+            Lexed::End { next } => return put_end(rt, out, end, next.at, tokens),
             Lexed::Refused {
                 why,
                 start,
                 length,
                 next,
-            } => return put_refusal(out, end, why, start, length, next.at),
+            } => return put_refusal(rt, out, end, why, start, length, next.at),
         }
     }
 }
@@ -81,19 +82,27 @@ fn lexed_at(text: &[u8], cursor: Cursor, way: Way, profile: Profile) -> Lexed
 }
 
 // What ends a token's line.
-fn put_counts(out: &mut [u8], at: usize, way: Way, digits: u32, underscores: u32) -> usize
+fn put_counts(
+    rt: &(impl Print + Eprint),
+    out: &mut [u8],
+    at: usize,
+    way: Way,
+    digits: u32,
+    underscores: u32,
+) -> usize
     ensures { Within out.new result }
 {
     match way {
-        Way::Next => put(out, at, b"\n"),
-        Way::Sums => put_sums(out, at, digits, underscores),
-        Way::Reader => put_sums(out, at, digits, underscores),
+        Way::Next => put(rt, out, at, b"\n"),
+        Way::Sums => put_sums(rt, out, at, digits, underscores),
+        Way::Reader => put_sums(rt, out, at, digits, underscores),
     }
 }
 
 // The lent numbers behind `list`, in one line, which shows also those that it leaves as they were: each is 4294967295 before. Then
 // END, the offset and the number of records, or the refusal, its span, the offset and the number of records.
 pub(crate) fn put_list(
+    rt: &(impl Print + Eprint),
     out: &mut [u8],
     at: usize,
     text: &[u8],
@@ -105,8 +114,8 @@ pub(crate) fn put_list(
 {
     unset(numbers);
     let listed = list(text, Cursor { at: offset }, profile, numbers);
-    let end = put_numbers(out, at, numbers);
-    put_listed(out, end, listed)
+    let end = put_numbers(rt, out, at, numbers);
+    put_listed(rt, out, end, listed)
 }
 
 // Each number is 4294967295 before a call, so that those which it leaves are seen.
@@ -119,34 +128,34 @@ pub fn unset(numbers: &mut [u32]) {
 }
 
 // In one line, parted by blanks.
-pub fn put_numbers(out: &mut [u8], at: usize, numbers: &[u32]) -> usize
+pub fn put_numbers(rt: &(impl Print + Eprint), out: &mut [u8], at: usize, numbers: &[u32]) -> usize
     ensures { Within out.new result }
 {
     let mut end = filled(out, at);
     let mut i = 0;
     while i < numbers.len() {
-        end = put_item(out, end, i, numbers[i]);
+        end = put_item(rt, out, end, i, numbers[i]);
         i += 1;
     }
-    put_byte(out, end, b'\n')
+    put_byte(rt, out, end, b'\n')
 }
 
 // A blank parts a number from the one before it.
-fn put_item(out: &mut [u8], at: usize, i: usize, n: u32) -> usize
+fn put_item(rt: &(impl Print + Eprint), out: &mut [u8], at: usize, i: usize, n: u32) -> usize
     ensures { Within out.new result }
 {
     if i == 0 {
-        return put_number(out, at, n as usize);
+        return put_number(rt, out, at, n as usize);
     }
-    let parted = put_byte(out, at, b' ');
-    put_number(out, parted, n as usize)
+    let parted = put_byte(rt, out, at, b' ');
+    put_number(rt, out, parted, n as usize)
 }
 
-fn put_listed(out: &mut [u8], at: usize, listed: Listed) -> usize
+fn put_listed(rt: &(impl Print + Eprint), out: &mut [u8], at: usize, listed: Listed) -> usize
     ensures { Within out.new result }
 {
     match listed {
-        Listed::End { records, next } => put_end(out, at, next.at, records),
+        Listed::End { records, next } => put_end(rt, out, at, next.at, records),
         Listed::Refused {
             why,
             start,
@@ -154,22 +163,23 @@ fn put_listed(out: &mut [u8], at: usize, listed: Listed) -> usize
             records,
             next,
         } => {
-            let named = put_why(out, at, why);
-            put_counted_place(out, named, start, length, next.at, records)
+            let named = put_why(rt, out, at, why);
+            put_counted_place(rt, out, named, start, length, next.at, records)
         }
         Listed::TooLong { next } => {
-            let named = put(out, at, b"TooLong");
-            put_counted_place(out, named, 0, 0, next.at, 0)
+            let named = put(rt, out, at, b"TooLong");
+            put_counted_place(rt, out, named, 0, 0, next.at, 0)
         }
         Listed::ListFull { records, next } => {
-            let named = put(out, at, b"ListFull");
-            put_counted_place(out, named, next.at, 0, next.at, records)
+            let named = put(rt, out, at, b"ListFull");
+            put_counted_place(rt, out, named, next.at, 0, next.at, records)
         }
     }
 }
 
 // The same behind `list_part`, with how many lexemes were spent at the end of the last line. Paused is told as a refusal is.
 pub(crate) fn put_list_part(
+    rt: &(impl Print + Eprint),
     out: &mut [u8],
     at: usize,
     text: &[u8],
@@ -182,11 +192,11 @@ pub(crate) fn put_list_part(
 {
     unset(numbers);
     let part = list_part(text, Cursor { at: offset }, profile, allowance, numbers);
-    let end = put_numbers(out, at, numbers);
-    put_listed_part(out, end, part)
+    let end = put_numbers(rt, out, at, numbers);
+    put_listed_part(rt, out, end, part)
 }
 
-fn put_listed_part(out: &mut [u8], at: usize, part: Part) -> usize
+fn put_listed_part(rt: &(impl Print + Eprint), out: &mut [u8], at: usize, part: Part) -> usize
     ensures { Within out.new result }
 {
     match part {
@@ -195,8 +205,8 @@ fn put_listed_part(out: &mut [u8], at: usize, part: Part) -> usize
             spent,
             next,
         } => {
-            let named = put(out, at, b"END");
-            put_spent(out, named, next.at, records, spent)
+            let named = put(rt, out, at, b"END");
+            put_spent(rt, out, named, next.at, records, spent)
         }
         Part::Refused {
             why,
@@ -206,28 +216,29 @@ fn put_listed_part(out: &mut [u8], at: usize, part: Part) -> usize
             spent,
             next,
         } => {
-            let named = put_why(out, at, why);
-            put_spent_place(out, named, start, length, next.at, records, spent)
+            let named = put_why(rt, out, at, why);
+            put_spent_place(rt, out, named, start, length, next.at, records, spent)
         }
         Part::TooLong { next } => {
-            let named = put(out, at, b"TooLong");
-            put_spent_place(out, named, 0, 0, next.at, 0, 0)
+            let named = put(rt, out, at, b"TooLong");
+            put_spent_place(rt, out, named, 0, 0, next.at, 0, 0)
         }
         Part::Paused {
             records,
             spent,
             next,
-        } => put_stopped(out, at, b"Paused", next.at, records, spent),
+        } => put_stopped(rt, out, at, b"Paused", next.at, records, spent),
         Part::ListFull {
             records,
             spent,
             next,
-        } => put_stopped(out, at, b"ListFull", next.at, records, spent),
+        } => put_stopped(rt, out, at, b"ListFull", next.at, records, spent),
     }
 }
 
 // What stops at a legal lexeme has a span of no byte there.
 fn put_stopped(
+    rt: &(impl Print + Eprint),
     out: &mut [u8],
     at: usize,
     name: &[u8],
@@ -237,12 +248,13 @@ fn put_stopped(
 ) -> usize
     ensures { Within out.new result }
 {
-    let named = put(out, at, name);
-    put_spent_place(out, named, offset, 0, offset, records, spent)
+    let named = put(rt, out, at, name);
+    put_spent_place(rt, out, named, offset, 0, offset, records, spent)
 }
 
 // CUT, the span, whether it has a token that counts, and the offset; or OPEN or END, the span and the offset; or the refusal.
 pub(crate) fn put_cut(
+    rt: &(impl Print + Eprint),
     out: &mut [u8],
     at: usize,
     text: &[u8],
@@ -257,33 +269,39 @@ pub(crate) fn put_cut(
             length,
             any,
             next,
-        } => put_statement(out, at, start, length, any, next.at),
+        } => put_statement(rt, out, at, start, length, any, next.at),
         Statement::Open {
             start,
             length,
             next,
         } => {
-            let named = put(out, at, b"OPEN");
-            put_place(out, named, start, length, next.at)
+            let named = put(rt, out, at, b"OPEN");
+            put_place(rt, out, named, start, length, next.at)
         }
         Statement::End { next } => {
-            let named = put(out, at, b"END");
-            put_place(out, named, next.at, 0, next.at)
+            let named = put(rt, out, at, b"END");
+            put_place(rt, out, named, next.at, 0, next.at)
         }
         Statement::Refused {
             why,
             start,
             length,
             next,
-        } => put_refusal(out, at, why, start, length, next.at),
+        } => put_refusal(rt, out, at, why, start, length, next.at),
     }
 }
 
 // The kind's name, and 1 where `is_quotable_keyword` holds, else 0.
-pub(crate) fn put_word(out: &mut [u8], at: usize, names: &[u8; 2992], word: &[u8]) -> usize
+pub(crate) fn put_word(
+    rt: &(impl Print + Eprint),
+    out: &mut [u8],
+    at: usize,
+    names: &[u8; 2992],
+    word: &[u8],
+) -> usize
     ensures { Within out.new result }
 {
-    let named = put_kind(out, at, names, keyword_or_id_token(word));
-    let told = put_column(out, named, is_quotable_keyword(word) as usize);
-    put(out, told, b"\n")
+    let named = put_kind(rt, out, at, names, keyword_or_id_token(word));
+    let told = put_column(rt, out, named, is_quotable_keyword(word) as usize);
+    put(rt, out, told, b"\n")
 }

@@ -1,6 +1,6 @@
 // What the answers print, with an empty line behind each.
 ghost use Rattle.std.specs.Prelude.{◌≤◌};
-ghost use Rattle.io.specs.Counts.{IsPrefixLen};
+ghost use Rattle.rows.specs.Counts.{IsPrefixLen};
 ghost use Rattle.rows.specs.Out.{Within};
 
 use crate::answers::{Way, put_cut, put_list, put_list_part, put_walk, put_word};
@@ -9,6 +9,7 @@ use grammar::profile::Profile;
 use rows::out::put_byte;
 
 pub fn put_walk_block(
+    rt: &(impl Print + Eprint),
     out: &mut [u8],
     at: usize,
     names: &[u8; 2992],
@@ -19,12 +20,13 @@ pub fn put_walk_block(
 ) -> usize
     ensures { Within out.new result }
 {
-    let end = put_walk(out, at, names, text, offset, way, profile);
-    put_byte(out, end, b'\n')
+    let end = put_walk(rt, out, at, names, text, offset, way, profile);
+    put_byte(rt, out, end, b'\n')
 }
 
 // A list into the first n numbers, or into all where there are fewer.
 pub fn put_list_block(
+    rt: &(impl Print + Eprint),
     out: &mut [u8],
     at: usize,
     text: &[u8],
@@ -36,12 +38,13 @@ pub fn put_list_block(
     ensures { Within out.new result }
 {
     let lent = first(numbers, n);
-    let end = put_list(out, at, text, offset, profile, &mut numbers[..lent]);
-    put_byte(out, end, b'\n')
+    let end = put_list(rt, out, at, text, offset, profile, &mut numbers[..lent]);
+    put_byte(rt, out, end, b'\n')
 }
 
 // A slice of a list without TK_NONE, into as many.
 pub fn put_part_block(
+    rt: &(impl Print + Eprint),
     out: &mut [u8],
     at: usize,
     text: &[u8],
@@ -55,6 +58,7 @@ pub fn put_part_block(
 {
     let lent = first(numbers, n);
     let end = put_list_part(
+        rt,
         out,
         at,
         text,
@@ -63,7 +67,7 @@ pub fn put_part_block(
         allowance,
         &mut numbers[..lent],
     );
-    put_byte(out, end, b'\n')
+    put_byte(rt, out, end, b'\n')
 }
 
 // How many numbers the first n are, where there may be fewer.
@@ -80,6 +84,7 @@ pub(crate) fn least(a: usize, b: usize) -> usize
 }
 
 pub fn put_cut_block(
+    rt: &(impl Print + Eprint),
     out: &mut [u8],
     at: usize,
     text: &[u8],
@@ -88,18 +93,25 @@ pub fn put_cut_block(
 ) -> usize
     ensures { Within out.new result }
 {
-    let end = put_cut(out, at, text, offset, profile);
-    put_byte(out, end, b'\n')
+    let end = put_cut(rt, out, at, text, offset, profile);
+    put_byte(rt, out, end, b'\n')
 }
 
-pub fn put_word_block(out: &mut [u8], at: usize, names: &[u8; 2992], word: &[u8]) -> usize
+pub fn put_word_block(
+    rt: &(impl Print + Eprint),
+    out: &mut [u8],
+    at: usize,
+    names: &[u8; 2992],
+    word: &[u8],
+) -> usize
     ensures { Within out.new result }
 {
-    let end = put_word(out, at, names, word);
-    put_byte(out, end, b'\n')
+    let end = put_word(rt, out, at, names, word);
+    put_byte(rt, out, end, b'\n')
 }
 
 pub fn put_stream_block(
+    rt: &(impl Print + Eprint),
     out: &mut [u8],
     at: usize,
     names: &[u8; 2992],
@@ -109,6 +121,6 @@ pub fn put_stream_block(
 ) -> usize
     ensures { Within out.new result }
 {
-    let end = put_stream(out, at, names, script, profile, held);
-    put_byte(out, end, b'\n')
+    let end = put_stream(rt, out, at, names, script, profile, held);
+    put_byte(rt, out, end, b'\n')
 }

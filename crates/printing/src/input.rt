@@ -1,13 +1,13 @@
-// Standard input, read in pieces as large as the row of bytes allows, and its records.
+// The input, read in pieces as large as the row of bytes allows, and its records.
 ghost use Rattle.std.specs.Prelude.{◌≡◌, ◌+◌, ◌≤◌, length};
 ghost use Rattle.printing.specs.Rows.{Inside, Holds};
 
-use libc::STDIN_FILENO;
 use rows::input::{Found, record_at};
 use rows::out::complain;
+use std::io::Read;
 
 // The bytes of the row that are read and not used yet: from one place to before another. `failed`: a read failed behind them.
-#[derive(Drop)]
+#[derive(Clone, Copy)]
 pub struct Unread {
     pub from: usize,
     pub to: usize,
@@ -15,7 +15,7 @@ pub struct Unread {
 }
 
 // What one read gives: so many bytes, none at the end of the input and where it failed.
-#[derive(Drop)]
+#[derive(Clone, Copy)]
 struct Got {
     bytes: usize,
     failed: bool,
@@ -23,7 +23,7 @@ struct Got {
 
 // Text: where in the row it stands, and up to where the row is read. Over: the input ends where a record would start. Short: a record
 // of at least so many bytes is cut off. Bad: its text is longer than allowed, or the input cannot be read.
-#[derive(Drop)]
+#[derive(Clone, Copy)]
 pub enum Record {
     Text {
         offset: usize,
@@ -48,23 +48,27 @@ fn move_to_front(row: &mut [u8], from: usize, n: usize)
 }
 
 // One read behind the filled part.
-fn read_behind(row: &mut [u8], filled: usize) -> Got
+fn read_behind(input: &mut impl Read, row: &mut [u8], filled: usize) -> Got
     requires { filled ≤ length row.old }
     ensures { filled + result.bytes ≤ length row.new }
 {
-    let part = &mut row[filled..];
-    let got = libc::read(STDIN_FILENO, part);
-    Got {
-        bytes: io::count(got, part),
-        failed: got < 0,
+    match input.read(&mut row[filled..]) {
+        Ok(bytes) => Got {
+            bytes,
+            failed: false,
+        },
+        Err(_) => Got {
+            bytes: 0,
+            failed: true,
+        },
     }
 }
 
 // Behind so many bytes the input cannot be read, which is told at once.
-fn broken_off(filled: usize) -> Unread
+fn broken_off(rt: &impl Eprint, filled: usize) -> Unread
     ensures { (result.from ≡ 0) × (result.to ≡ filled) }
 {
-    complain(b"standard input cannot be read\n");
+    complain(rt, b"standard input cannot be read\n");
     Unread {
         from: 0,
         to: filled,
@@ -73,7 +77,13 @@ fn broken_off(filled: usize) -> Unread
 }
 
 // At least n unread bytes, or all that the input still has and the row holds.
-pub(crate) fn fill(row: &mut [u8], unread: Unread, n: usize) -> Unread
+pub(crate) fn fill(
+    rt: &impl Eprint,
+    input: &mut impl Read,
+    row: &mut [u8],
+    unread: Unread,
+    n: usize,
+) -> Unread
     requires { Inside row.old unread }
     ensures { Inside row.new result }
 {
@@ -84,9 +94,9 @@ pub(crate) fn fill(row: &mut [u8], unread: Unread, n: usize) -> Unread
     }
     move_to_front(row, from, filled);
     while filled < n {
-        let more = read_behind(row, filled);
+        let more = read_behind(input, row, filled);
         if more.failed {
-            return broken_off(filled);
+            return broken_off(rt, filled);
         }
         if more.bytes == 0 {
             break;
@@ -143,11 +153,16 @@ fn found_in(row: &[u8], unread: Unread) -> Record
 }
 
 // The next record. Unread bytes that do not lie in the row count as none.
-pub fn read_record(row: &mut [u8], unread: Unread) -> Record
+pub fn read_record(
+    rt: &impl Eprint,
+    input: &mut impl Read,
+    row: &mut [u8],
+    unread: Unread,
+) -> Record
     ensures { Holds row.new result }
 {
     let kept = inside(row, unread);
-    let head = fill(row, kept, 8);
+    let head = fill(rt, input, row, kept, 8);
     if head.failed {
         return Record::Bad;
     }
@@ -158,6 +173,6 @@ pub fn read_record(row: &mut [u8], unread: Unread) -> Record
     let Record::Short(n) = found else {
         return found;
     };
-    let whole = fill(row, head, n);
+    let whole = fill(rt, input, row, head, n);
     found_in(row, whole)
 }

@@ -28,7 +28,13 @@ fn gather(all: &mut [u8; 2992], kind: usize)
 }
 
 // The kind's name without the dots; nothing where the number is no kind's.
-pub(crate) fn put_kind(row: &mut [u8], at: usize, names: &[u8; 2992], kind: u32) -> usize
+pub(crate) fn put_kind(
+    rt: &(impl Print + Eprint),
+    row: &mut [u8],
+    at: usize,
+    names: &[u8; 2992],
+    kind: u32,
+) -> usize
     ensures { Within row.new result }
 {
     let mut end = filled(row, at);
@@ -41,7 +47,7 @@ pub(crate) fn put_kind(row: &mut [u8], at: usize, names: &[u8; 2992], kind: u32)
         if names[i] == b'.' {
             return end;
         }
-        end = put_byte(row, end, names[i]);
+        end = put_byte(rt, row, end, names[i]);
         i += 1;
     }
     end

@@ -8,6 +8,7 @@ use rows::out::put;
 
 // The line goes on.
 pub(crate) fn put_token(
+    rt: &(impl Print + Eprint),
     out: &mut [u8],
     at: usize,
     names: &[u8; 2992],
@@ -17,52 +18,71 @@ pub(crate) fn put_token(
 ) -> usize
     ensures { Within out.new result }
 {
-    let named = put_kind(out, at, names, kind);
-    put_span(out, named, start, length)
+    let named = put_kind(rt, out, at, names, kind);
+    put_span(rt, out, named, start, length)
 }
 
-pub(crate) fn put_sums(out: &mut [u8], at: usize, digits: u32, underscores: u32) -> usize
+pub(crate) fn put_sums(
+    rt: &(impl Print + Eprint),
+    out: &mut [u8],
+    at: usize,
+    digits: u32,
+    underscores: u32,
+) -> usize
     ensures { Within out.new result }
 {
-    let counted = put_column(out, at, digits as usize);
-    let both = put_column(out, counted, underscores as usize);
-    put(out, both, b"\n")
+    let counted = put_column(rt, out, at, digits as usize);
+    let both = put_column(rt, out, counted, underscores as usize);
+    put(rt, out, both, b"\n")
 }
 
 // `count` is that of the tokens or of the records.
-pub(crate) fn put_end(out: &mut [u8], at: usize, offset: usize, count: usize) -> usize
+pub(crate) fn put_end(
+    rt: &(impl Print + Eprint),
+    out: &mut [u8],
+    at: usize,
+    offset: usize,
+    count: usize,
+) -> usize
     ensures { Within out.new result }
 {
-    let named = put(out, at, b"END");
-    let placed = put_column(out, named, offset);
-    let counted = put_column(out, placed, count);
-    put(out, counted, b"\n")
+    let named = put(rt, out, at, b"END");
+    let placed = put_column(rt, out, named, offset);
+    let counted = put_column(rt, out, placed, count);
+    put(rt, out, counted, b"\n")
 }
 
-pub(crate) fn put_why(out: &mut [u8], at: usize, why: Refusal) -> usize
+pub(crate) fn put_why(rt: &(impl Print + Eprint), out: &mut [u8], at: usize, why: Refusal) -> usize
     ensures { Within out.new result }
 {
     match why {
-        Refusal::UnrecognizedToken => put(out, at, b"UnrecognizedToken"),
-        Refusal::UnterminatedLiteral => put(out, at, b"UnterminatedLiteral"),
-        Refusal::BadNumber => put(out, at, b"BadNumber"),
-        Refusal::BadFractionalPart => put(out, at, b"BadFractionalPart"),
-        Refusal::BadExponentPart => put(out, at, b"BadExponentPart"),
-        Refusal::MalformedHexInteger => put(out, at, b"MalformedHexInteger"),
-        Refusal::ExpectedEqualsSign => put(out, at, b"ExpectedEqualsSign"),
-        Refusal::OffsetPastEnd => put(out, at, b"OffsetPastEnd"),
+        Refusal::UnrecognizedToken => put(rt, out, at, b"UnrecognizedToken"),
+        Refusal::UnterminatedLiteral => put(rt, out, at, b"UnterminatedLiteral"),
+        Refusal::BadNumber => put(rt, out, at, b"BadNumber"),
+        Refusal::BadFractionalPart => put(rt, out, at, b"BadFractionalPart"),
+        Refusal::BadExponentPart => put(rt, out, at, b"BadExponentPart"),
+        Refusal::MalformedHexInteger => put(rt, out, at, b"MalformedHexInteger"),
+        Refusal::ExpectedEqualsSign => put(rt, out, at, b"ExpectedEqualsSign"),
+        Refusal::OffsetPastEnd => put(rt, out, at, b"OffsetPastEnd"),
     }
 }
 
-fn put_span(out: &mut [u8], at: usize, start: usize, length: usize) -> usize
+fn put_span(
+    rt: &(impl Print + Eprint),
+    out: &mut [u8],
+    at: usize,
+    start: usize,
+    length: usize,
+) -> usize
     ensures { Within out.new result }
 {
-    let begun = put_column(out, at, start);
-    put_column(out, begun, length)
+    let begun = put_column(rt, out, at, start);
+    put_column(rt, out, begun, length)
 }
 
 // The span and the offset end the line.
 pub(crate) fn put_place(
+    rt: &(impl Print + Eprint),
     out: &mut [u8],
     at: usize,
     start: usize,
@@ -71,13 +91,14 @@ pub(crate) fn put_place(
 ) -> usize
     ensures { Within out.new result }
 {
-    let spanned = put_span(out, at, start, length);
-    let placed = put_column(out, spanned, offset);
-    put(out, placed, b"\n")
+    let spanned = put_span(rt, out, at, start, length);
+    let placed = put_column(rt, out, spanned, offset);
+    put(rt, out, placed, b"\n")
 }
 
 // Behind the span and the offset a number ends the line: of a list's records, or of the bytes that a stream took.
 pub(crate) fn put_counted_place(
+    rt: &(impl Print + Eprint),
     out: &mut [u8],
     at: usize,
     start: usize,
@@ -87,14 +108,15 @@ pub(crate) fn put_counted_place(
 ) -> usize
     ensures { Within out.new result }
 {
-    let spanned = put_span(out, at, start, length);
-    let placed = put_column(out, spanned, offset);
-    let counted = put_column(out, placed, count);
-    put(out, counted, b"\n")
+    let spanned = put_span(rt, out, at, start, length);
+    let placed = put_column(rt, out, spanned, offset);
+    let counted = put_column(rt, out, placed, count);
+    put(rt, out, counted, b"\n")
 }
 
 // Behind the offset two numbers end the line: of a list's records, and of the lexemes that were spent.
 pub(crate) fn put_spent(
+    rt: &(impl Print + Eprint),
     out: &mut [u8],
     at: usize,
     offset: usize,
@@ -103,13 +125,14 @@ pub(crate) fn put_spent(
 ) -> usize
     ensures { Within out.new result }
 {
-    let placed = put_column(out, at, offset);
-    let counted = put_column(out, placed, records);
-    let told = put_column(out, counted, spent as usize);
-    put(out, told, b"\n")
+    let placed = put_column(rt, out, at, offset);
+    let counted = put_column(rt, out, placed, records);
+    let told = put_column(rt, out, counted, spent as usize);
+    put(rt, out, told, b"\n")
 }
 
 pub(crate) fn put_spent_place(
+    rt: &(impl Print + Eprint),
     out: &mut [u8],
     at: usize,
     start: usize,
@@ -120,11 +143,12 @@ pub(crate) fn put_spent_place(
 ) -> usize
     ensures { Within out.new result }
 {
-    let spanned = put_span(out, at, start, length);
-    put_spent(out, spanned, offset, records, spent)
+    let spanned = put_span(rt, out, at, start, length);
+    put_spent(rt, out, spanned, offset, records, spent)
 }
 
 pub(crate) fn put_refusal(
+    rt: &(impl Print + Eprint),
     out: &mut [u8],
     at: usize,
     why: Refusal,
@@ -134,12 +158,13 @@ pub(crate) fn put_refusal(
 ) -> usize
     ensures { Within out.new result }
 {
-    let named = put_why(out, at, why);
-    put_place(out, named, start, length, offset)
+    let named = put_why(rt, out, at, why);
+    put_place(rt, out, named, start, length, offset)
 }
 
 // `any` is whether a token that is not TK_NONE came before the semicolon.
 pub(crate) fn put_statement(
+    rt: &(impl Print + Eprint),
     out: &mut [u8],
     at: usize,
     start: usize,
@@ -149,9 +174,9 @@ pub(crate) fn put_statement(
 ) -> usize
     ensures { Within out.new result }
 {
-    let named = put(out, at, b"CUT");
-    let spanned = put_span(out, named, start, length);
-    let told = put_column(out, spanned, any as usize);
-    let placed = put_column(out, told, offset);
-    put(out, placed, b"\n")
+    let named = put(rt, out, at, b"CUT");
+    let spanned = put_span(rt, out, named, start, length);
+    let told = put_column(rt, out, spanned, any as usize);
+    let placed = put_column(rt, out, told, offset);
+    put(rt, out, placed, b"\n")
 }

@@ -15,6 +15,7 @@ use records::WIDTH;
 const FEW: usize = 2 * WIDTH + 2;
 
 pub fn put_replay(
+    rt: &(impl Print + Eprint),
     out: &mut [u8],
     at: usize,
     names: &[u8; 2992],
@@ -25,14 +26,15 @@ pub fn put_replay(
 ) -> usize
     ensures { Within out.new result }
 {
-    let walked = put_walk_block(out, at, names, text, offset, Way::Sums, profile);
-    let read = put_walk_block(out, walked, names, text, offset, Way::Reader, profile);
-    let small = put_small(out, read, text, offset, profile, numbers);
-    let near = put_near(out, small, text, offset, profile, numbers);
-    put_cut_block(out, near, text, offset, profile)
+    let walked = put_walk_block(rt, out, at, names, text, offset, Way::Sums, profile);
+    let read = put_walk_block(rt, out, walked, names, text, offset, Way::Reader, profile);
+    let small = put_small(rt, out, read, text, offset, profile, numbers);
+    let near = put_near(rt, out, small, text, offset, profile, numbers);
+    put_cut_block(rt, out, near, text, offset, profile)
 }
 
 fn put_small(
+    rt: &(impl Print + Eprint),
     out: &mut [u8],
     at: usize,
     text: &[u8],
@@ -42,10 +44,10 @@ fn put_small(
 ) -> usize
     ensures { Within out.new result }
 {
-    let mut end = put_list_block(out, at, text, offset, profile, numbers, 0);
+    let mut end = put_list_block(rt, out, at, text, offset, profile, numbers, 0);
     let mut n = 1;
     while n < FEW {
-        end = put_list_block(out, end, text, offset, profile, numbers, n);
+        end = put_list_block(rt, out, end, text, offset, profile, numbers, n);
         n += 1;
     }
     end
@@ -53,6 +55,7 @@ fn put_small(
 
 // Lists of one number too few for the text's records, of just enough, and of four more.
 fn put_near(
+    rt: &(impl Print + Eprint),
     out: &mut [u8],
     at: usize,
     text: &[u8],
@@ -63,9 +66,9 @@ fn put_near(
     ensures { Within out.new result }
 {
     let full = WIDTH * records(text, offset, profile, numbers);
-    let short = put_list_block(out, at, text, offset, profile, numbers, before(full));
-    let exact = put_list_block(out, short, text, offset, profile, numbers, full);
-    put_list_block(out, exact, text, offset, profile, numbers, full + 4)
+    let short = put_list_block(rt, out, at, text, offset, profile, numbers, before(full));
+    let exact = put_list_block(rt, out, short, text, offset, profile, numbers, full);
+    put_list_block(rt, out, exact, text, offset, profile, numbers, full + 4)
 }
 
 fn before(n: usize) -> usize {

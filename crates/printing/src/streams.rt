@@ -14,7 +14,7 @@ use stream::stream::{Answer, begin};
 
 // Part: where in the script it stands. Finish: where the next call stands. Over: the script ends where a call would start. Cut: it ends
 // inside one.
-#[derive(Drop)]
+#[derive(Clone, Copy)]
 enum Call {
     Part { start: usize, end: usize },
     Finish { next: usize },
@@ -23,7 +23,7 @@ enum Call {
 }
 
 // The stream behind a call, and how many bytes of the row are filled.
-#[derive(Drop)]
+#[derive(Clone, Copy)]
 struct Printed {
     stream: Stream,
     end: usize,
@@ -31,6 +31,7 @@ struct Printed {
 
 // A line for each answer; BADSCRIPT in place of a call that is cut off. The stream begins anew, whatever bytes are held.
 pub(crate) fn put_stream(
+    rt: &(impl Print + Eprint),
     out: &mut [u8],
     at: usize,
     names: &[u8; 2992],
@@ -46,19 +47,19 @@ pub(crate) fn put_stream(
     loop {
         match call_at(script, place) {
             Call::Part { start, end: past } => {
-                let part = put_part(out, end, names, stream, held, &script[start..past]);
+                let part = put_part(rt, out, end, names, stream, held, &script[start..past]);
                 stream = part.stream;
                 end = part.end;
                 place = past;
             }
             Call::Finish { next } => {
-                let last = put_finish(out, end, names, stream, held);
+                let last = put_finish(rt, out, end, names, stream, held);
                 stream = last.stream;
                 end = last.end;
                 place = next;
             }
             Call::Over => return end,
-            Call::Cut => return put(out, end, b"BADSCRIPT\n"),
+            Call::Cut => return put(rt, out, end, b"BADSCRIPT\n"),
         }
     }
 }
@@ -96,6 +97,7 @@ fn wide(b: u8) -> usize
 // Offers the part, and while a token comes what is left of it, also where that is nothing: what is held may give a token more. Each token
 // has a byte at least, so that they run out.
 fn put_part(
+    rt: &(impl Print + Eprint),
     out: &mut [u8],
     at: usize,
     names: &[u8; 2992],
@@ -112,7 +114,7 @@ fn put_part(
         let given = offer(stream, held, &part[from..]);
         let answer = given.answer;
         stream = given.stream;
-        end = put_called(out, end, names, answer, given.taken);
+        end = put_called(rt, out, end, names, answer, given.taken);
         if !is_token(answer) {
             return Printed { stream, end };
         }
@@ -121,6 +123,7 @@ fn put_part(
 }
 
 fn put_finish(
+    rt: &(impl Print + Eprint),
     out: &mut [u8],
     at: usize,
     names: &[u8; 2992],
@@ -132,7 +135,7 @@ fn put_finish(
     let given = finish(before, held);
     let answer = given.answer;
     let stream = given.stream;
-    let end = put_called(out, at, names, answer, given.taken);
+    let end = put_called(rt, out, at, names, answer, given.taken);
     Printed { stream, end }
 }
 
@@ -163,7 +166,14 @@ fn is_token(answer: Answer) -> bool
 }
 
 // The line of an answer, with how many bytes of the part were taken; END is without it.
-fn put_called(out: &mut [u8], at: usize, names: &[u8; 2992], answer: Answer, taken: usize) -> usize
+fn put_called(
+    rt: &(impl Print + Eprint),
+    out: &mut [u8],
+    at: usize,
+    names: &[u8; 2992],
+    answer: Answer,
+    taken: usize,
+) -> usize
     ensures { Within out.new result }
 {
     match answer {
@@ -175,16 +185,16 @@ fn put_called(out: &mut [u8], at: usize, names: &[u8; 2992], answer: Answer, tak
             digits: _,
             underscores: _,
         } => {
-            let told = put_token(out, at, names, kind, start, length);
-            put_last(out, told, taken)
+            let told = put_token(rt, out, at, names, kind, start, length);
+            put_last(rt, out, told, taken)
         }
         Answer::More => {
-            let named = put(out, at, b"More");
-            put_last(out, named, taken)
+            let named = put(rt, out, at, b"More");
+            put_last(rt, out, named, taken)
         }
         Answer::End { next } => {
-            let named = put(out, at, b"END");
-            put_last(out, named, next)
+            let named = put(rt, out, at, b"END");
+            put_last(rt, out, named, next)
         }
         Answer::Refused {
             why,
@@ -192,27 +202,34 @@ fn put_called(out: &mut [u8], at: usize, names: &[u8; 2992], answer: Answer, tak
             length,
             next,
         } => {
-            let named = put_why(out, at, why);
-            put_counted_place(out, named, start, length, next, taken)
+            let named = put_why(rt, out, at, why);
+            put_counted_place(rt, out, named, start, length, next, taken)
         }
-        Answer::Closed { next } => put_own(out, at, b"Closed", next, taken),
-        Answer::TooLong { next } => put_own(out, at, b"TooLong", next, taken),
-        Answer::LexemeTooLong { next } => put_own(out, at, b"LexemeTooLong", next, taken),
+        Answer::Closed { next } => put_own(rt, out, at, b"Closed", next, taken),
+        Answer::TooLong { next } => put_own(rt, out, at, b"TooLong", next, taken),
+        Answer::LexemeTooLong { next } => put_own(rt, out, at, b"LexemeTooLong", next, taken),
     }
 }
 
 // A refusal of the stream's own, which has a span of no byte.
-fn put_own(out: &mut [u8], at: usize, name: &[u8], offset: usize, taken: usize) -> usize
+fn put_own(
+    rt: &(impl Print + Eprint),
+    out: &mut [u8],
+    at: usize,
+    name: &[u8],
+    offset: usize,
+    taken: usize,
+) -> usize
     ensures { Within out.new result }
 {
-    let named = put(out, at, name);
-    put_counted_place(out, named, offset, 0, offset, taken)
+    let named = put(rt, out, at, name);
+    put_counted_place(rt, out, named, offset, 0, offset, taken)
 }
 
 // The number ends the line.
-fn put_last(out: &mut [u8], at: usize, n: usize) -> usize
+fn put_last(rt: &(impl Print + Eprint), out: &mut [u8], at: usize, n: usize) -> usize
     ensures { Within out.new result }
 {
-    let told = put_column(out, at, n);
-    put(out, told, b"\n")
+    let told = put_column(rt, out, at, n);
+    put(rt, out, told, b"\n")
 }
