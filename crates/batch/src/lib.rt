@@ -20,12 +20,13 @@ use rows::out::{flush, put};
 use shown::numbers::is_numbers_record;
 use shown::reads::{is_literal_record, put_literals};
 use shown::writes::{is_write_record, put_writes};
+use std::io::Read;
 
 // What is printed of a record: `next` walked over the text, also with the tokens' digits and underscores, a list of so many numbers, one
 // without TK_NONE and with an allowance of lexemes, the statement cut, the text as a word, or as a script of a stream's calls, a span's
 // literals read, the text written as literals, or a list's brackets paired with so many numbers lent; or, for `Replay`, the walk, the walk
 // by a reader, lists of several lengths and the cut.
-#[derive(Drop)]
+#[derive(Clone, Copy)]
 pub enum Mode {
     Next,
     Sums,
@@ -42,7 +43,7 @@ pub enum Mode {
 
 // Answers each record of standard input under the profile; a word's lookup, what is written and what is paired have none. One that is too
 // long or cut off, or cannot be read, or that the mode does not take, prints BADRECORD and is the last.
-pub fn print_records(mode: Mode, profile: Profile) {
+pub fn print_records(rt: &(impl Input + Print + Eprint), mode: Mode, profile: Profile) {
     let names = all_names();
     // `Replay` lends four more than a list fills.
     let mut numbers = [0u32; MOST + 4];
@@ -53,8 +54,10 @@ pub fn print_records(mode: Mode, profile: Profile) {
     // What is read of literals, and what is written: no record of `shown` asks for more.
     let mut lent = [0u8; 262144];
     let mut row = [0u8; 131072];
-    let mut out = io::large_buffer();
+    let mut out = [0u8; 65536];
     answer_records(
+        rt,
+        &mut rt.reader(),
         mode,
         profile,
         &names,
@@ -69,6 +72,8 @@ pub fn print_records(mode: Mode, profile: Profile) {
 
 // A loop has to end, and nothing says that the input does: it counts down from a number that no input uses up.
 fn answer_records(
+    rt: &(impl Print + Eprint),
+    input: &mut impl Read,
     mode: Mode,
     profile: Profile,
     names: &[u8; 2992],
@@ -83,7 +88,7 @@ fn answer_records(
     let mut at = 0;
     let mut turns = u64::MAX;
     while turns > 0 {
-        let read = read_record(row, unread);
+        let read = read_record(rt, input, row, unread);
         let found = taken(row, mode, read);
         let Record::Text {
             offset,
@@ -92,10 +97,11 @@ fn answer_records(
             to,
         } = found
         else {
-            print_last(out, at, found);
+            print_last(rt, out, at, found);
             return;
         };
         at = put_answer(
+            rt,
             out,
             at,
             mode,
@@ -115,7 +121,7 @@ fn answer_records(
         };
         turns -= 1;
     }
-    flush(out, at);
+    flush(rt, out, at);
 }
 
 // A record that the mode does not take is a bad one.
@@ -147,16 +153,17 @@ fn is_taken(mode: Mode, text: &[u8], offset: usize) -> bool {
     }
 }
 
-fn print_last(out: &mut [u8], at: usize, found: Record) {
+fn print_last(rt: &(impl Print + Eprint), out: &mut [u8], at: usize, found: Record) {
     let Record::Over = found else {
-        let end = put(out, at, b"BADRECORD\n");
-        flush(out, end);
+        let end = put(rt, out, at, b"BADRECORD\n");
+        flush(rt, out, end);
         return;
     };
-    flush(out, at);
+    flush(rt, out, at);
 }
 
 fn put_answer(
+    rt: &(impl Print + Eprint),
     out: &mut [u8],
     at: usize,
     mode: Mode,
@@ -172,18 +179,18 @@ fn put_answer(
     ensures { Within out.new result }
 {
     match mode {
-        Mode::Next => put_walk_block(out, at, names, text, offset, Way::Next, profile),
-        Mode::Sums => put_walk_block(out, at, names, text, offset, Way::Sums, profile),
-        Mode::List(n) => put_list_block(out, at, text, offset, profile, numbers, n),
+        Mode::Next => put_walk_block(rt, out, at, names, text, offset, Way::Next, profile),
+        Mode::Sums => put_walk_block(rt, out, at, names, text, offset, Way::Sums, profile),
+        Mode::List(n) => put_list_block(rt, out, at, text, offset, profile, numbers, n),
         Mode::Part(n, allowance) => {
-            put_part_block(out, at, text, offset, profile, allowance, numbers, n)
+            put_part_block(rt, out, at, text, offset, profile, allowance, numbers, n)
         }
-        Mode::Cut => put_cut_block(out, at, text, offset, profile),
-        Mode::Word => put_word_block(out, at, names, text),
-        Mode::Stream => put_stream_block(out, at, names, text, profile, held),
-        Mode::Literal => put_literals(out, at, text, offset, profile, lent),
-        Mode::Write => put_writes(out, at, text, offset, lent),
-        Mode::Pair(n) => put_pairing(out, at, text, given, numbers, n),
-        Mode::Replay => put_replay(out, at, names, text, offset, profile, numbers),
+        Mode::Cut => put_cut_block(rt, out, at, text, offset, profile),
+        Mode::Word => put_word_block(rt, out, at, names, text),
+        Mode::Stream => put_stream_block(rt, out, at, names, text, profile, held),
+        Mode::Literal => put_literals(rt, out, at, text, offset, profile, lent),
+        Mode::Write => put_writes(rt, out, at, text, offset, lent),
+        Mode::Pair(n) => put_pairing(rt, out, at, text, given, numbers, n),
+        Mode::Replay => put_replay(rt, out, at, names, text, offset, profile, numbers),
     }
 }
