@@ -107,8 +107,7 @@ pub extern "C" fn sqllex_cut(
     give(of_cut(cut(text, Cursor { at: offset }, profile)), answer)
 }
 
-// Whether a list made elsewhere is the one that List would write. The borrow checker covers no function that takes a slice of structs: this
-// one is proved by hand, and does no more than call others.
+// Whether a list made elsewhere is the one that List would write.
 #[unsafe(no_mangle)]
 pub extern "C" fn sqllex_check_list(
     text: &[u8],
