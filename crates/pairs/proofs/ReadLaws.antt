@@ -12,7 +12,7 @@ use Rattle.brackets.specs.Refusals.{pair_refusal}
 use Rattle.brackets.specs.Brackets.{is_opener, is_closer, closer_of, levels, Open, opening, deepest, refused, nesting}
 use Rattle.pairs.specs.declared.reading.Part.{Part}
 use Rattle.pairs.specs.declared.reading.Part.TheVariants.{Upto, TooDeep, WrongCloser, LeftOpen}
-use Rattle.pairs.specs.Parts.{nesting_from, goes_on, Reads, Stops, ItemsEnd, Behind, GroupEnd, closed}
+use Rattle.pairs.specs.Parts.{nesting_from, goes_on, Reads, ItemsEnd, GroupEnd, closed}
 use Rattle.pairs.proofs.StepLaws.{plain-nesting, opener-nesting, opener-too-deep, closer-nesting, closer-of-none, end-nesting}
 
 -- a part that is at fault: it ends nowhere, and what is open around it plays no part
@@ -39,13 +39,6 @@ faulty-same ks os rs (Upto at d) f = upto-no-fault at d f
 faulty-same ks os rs (TooDeep index) f = refl
 faulty-same ks os rs (WrongCloser index) f = refl
 faulty-same ks os rs (LeftOpen index) f = refl
-
--- a part that ends somewhere
-pub upto-stops : (ks : List ℕ) (from at d : ℕ) (r : Part) → r ≡ Upto at d → ItemsEnd ks from r → Stops ks from at
-upto-stops ks from at d r e h = subst (ItemsEnd ks from) e h
-
-pub upto-behind : (ks : List ℕ) (from at d : ℕ) (r : Part) → r ≡ Upto at d → GroupEnd ks from r → Behind ks from at
-upto-behind ks from at d r e h = subst (GroupEnd ks from) e h
 
 -- items: none yet, then one behind the other
 module _ (ks : List ℕ) (from depth d : ℕ) where
