@@ -5,6 +5,6 @@
 use batch::{Mode, print_records};
 use grammar::profile::Profile;
 
-fn main() {
-    print_records(Mode::Replay, Profile::Turso);
+fn main(rt: HostRuntime) {
+    print_records(&rt, Mode::Replay, Profile::Turso);
 }

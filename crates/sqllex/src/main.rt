@@ -3,6 +3,6 @@
 
 use printing::text::print_text;
 
-fn main() {
-    print_text();
+fn main(rt: HostRuntime) {
+    print_text(&rt);
 }
