@@ -9,12 +9,12 @@ use Rattle.integers.proofs.SignLaws.{in-range}
 use Rattle.integers.proofs.reading.hexadecimal_value.Goals as goal
 
 pub small_number-requires : goal.small_number-requires
-small_number-requires c = (omega arith, omega (arith, c.requires c.if-digits-le16.true))
+small_number-requires c = (omega arith, omega (arith, c.requires (omega arith)))
 
 pub returns-then-digits-le16 : goal.returns-then-digits-le16
 returns-then-digits-le16 c =
     ap valued (to_z-of_z w64 _ (record { sfits = c.signed.type_inv }) ∙ c.signed.ensures ∙ ap signed c.small_number.ensures)
-    ∙ sym (in-range _ _ (omega (arith, c.requires c.if-digits-le16.true)))
+    ∙ sym (in-range _ _ (omega (arith, c.requires (omega arith))))
 
 pub returns : goal.returns
 returns c = c.number_up_to.ensures
