@@ -1,1 +1,2 @@
+pub mod LabelLaws
 pub mod Theorems
