@@ -1,7 +1,7 @@
 // What a call that writes a literal answers.
 
 // Length: so many bytes stand at the buffer's front. NoRoom: the result is longer than the buffer, which is untouched.
-#[derive(Drop)]
+#[derive(Clone, Copy)]
 pub enum Written {
     Length(usize),
     NoRoom,

@@ -35,7 +35,7 @@ pub const DONE: u32 = 104;
 // 106 is that of a list that is accepted, in `verdicts`.
 pub const PAUSED: u32 = 105;
 
-#[derive(Drop)]
+#[derive(Clone, Copy)]
 pub struct Numbers {
     pub status: u32,
     pub value: usize,

@@ -4,7 +4,7 @@ ghost use Rattle.codes.specs.Profiles.{profile_of, profile_number};
 
 use grammar::profile::Profile;
 
-#[derive(Drop)]
+#[derive(Clone, Copy)]
 pub enum Chosen {
     Known(Profile),
     Unknown,

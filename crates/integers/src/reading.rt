@@ -10,7 +10,7 @@ use grammar::profile::Profile;
 use keywords::kinds::TK_INTEGER;
 use spans::span::{Found, find};
 
-#[derive(Drop)]
+#[derive(Clone, Copy)]
 pub enum IntegerRead {
     Value(i64),
     NotThatLiteral,

@@ -4,7 +4,7 @@ ghost use Rattle.labels.specs.Phases.{phase_of, phase_number};
 
 use intake::state::Phase;
 
-#[derive(Drop)]
+#[derive(Clone, Copy)]
 pub enum Reached {
     Known(Phase),
     Unknown,

@@ -4,7 +4,7 @@ ghost use Rattle.labels.specs.Readings.{reading_number, run_number, operator_num
 
 use readings::reading::{Named, Number, Operator, Quoted, Reading, Run};
 
-#[derive(Drop)]
+#[derive(Clone, Copy)]
 pub enum Read {
     Known(Reading),
     Unknown,

@@ -14,7 +14,7 @@ pub const LONGEST_TEXT: usize = 65535;
 
 // Why the list ends where it does, and how many records it has. `Refused` is what `next` refuses; `ListFull` is at the lexeme that
 // has no place.
-#[derive(Drop)]
+#[derive(Clone, Copy)]
 pub enum Listed {
     End {
         records: usize,

@@ -12,7 +12,7 @@ use records::WIDTH;
 
 // Why it ends where it does, how many records it wrote, and how many lexemes it passed. `Paused`: the allowance is spent, and another
 // legal lexeme begins at the cursor. The other cases are those of `Listed`.
-#[derive(Drop)]
+#[derive(Clone, Copy)]
 pub enum Part {
     End {
         records: usize,

@@ -13,7 +13,7 @@ use places::{FIRST, line_behind};
 use records::{WIDTH, put};
 
 // What stands where the walk stops: a lexeme that it does not pass, the end, or what `next` refuses.
-#[derive(Drop)]
+#[derive(Clone, Copy)]
 pub(crate) enum There {
     Lexeme,
     End,
@@ -25,7 +25,7 @@ pub(crate) enum There {
 }
 
 // How many numbers the walk has filled, how much of its allowance is left, where lexing goes on, and why it stopped.
-#[derive(Drop)]
+#[derive(Clone, Copy)]
 pub(crate) struct Stop {
     pub(crate) filled: usize,
     pub(crate) left: u32,

@@ -7,7 +7,7 @@ use intake::state::Stream;
 use labels::phases::{Reached, phase_of};
 use labels::so_far::{Read, reading_of};
 
-#[derive(Drop)]
+#[derive(Clone, Copy)]
 pub(crate) enum Restored {
     Stream(Stream),
     Unknown,

@@ -7,7 +7,7 @@ pub const LONGEST_RECORD: usize = 65536;
 
 // Text: its offset, and where in the row it stands. Short: the record has at least so many bytes, and fewer are there. Bad: its text is
 // longer than allowed.
-#[derive(Drop)]
+#[derive(Clone, Copy)]
 pub enum Found {
     Text {
         offset: usize,

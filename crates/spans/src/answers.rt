@@ -6,7 +6,7 @@ ghost use Rattle.spans.specs.Spans.{said_of};
 use buffers::written::Written;
 
 // Length: so many bytes stand at the buffer's front. With either refusal the buffer is untouched.
-#[derive(Drop)]
+#[derive(Clone, Copy)]
 pub enum BytesRead {
     Length(usize),
     NotThatLiteral,

@@ -8,7 +8,7 @@ use lexer::lexed::Lexed;
 use lexer::next::next;
 
 // Whole: Next gives exactly the span, with so many digits.
-#[derive(Drop)]
+#[derive(Clone, Copy)]
 pub enum Found {
     Whole { digits: u32 },
     Other,

@@ -8,7 +8,7 @@ use lexer::lexed::Refusal;
 use readings::reading::Reading;
 
 // Offsets count from the first byte of all parts. `Closed`, `TooLong` and `LexemeTooLong` have the end of the token given last.
-#[derive(Drop)]
+#[derive(Clone, Copy)]
 pub enum Answer {
     Token {
         kind: u32,
@@ -40,7 +40,7 @@ pub enum Answer {
 }
 
 // The stream to go on with, how many bytes of the part were taken, and the answer.
-#[derive(Drop)]
+#[derive(Clone, Copy)]
 pub struct Given {
     pub stream: Stream,
     pub taken: usize,
