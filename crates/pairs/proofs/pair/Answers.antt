@@ -3,6 +3,7 @@ use Prim.Native.Nat.{◌≤◌}
 use native.Mathlib.Omega.{arith}
 use mathlib.Core.Path.{sym}
 use lib.ListN.{length}
+use borrow.Author.Rules.{rules}
 use Rattle.brackets.specs.Numbers.{kinds_of, most_records}
 use Rattle.pairs.proofs.WriteLaws.{sound-whole, whole-written}
 use Rattle.pairs.proofs.PairLaws.{not-records, are-records, count, too_long, no_room, faulty, paired}
@@ -21,7 +22,7 @@ returns-then-partners-count c =
 pub returns-in_default : goal.returns-in_default
 returns-in_default c =
     faulty c.args.numbers.now c.args.partners.now c.if-numbers-ne0.false c.if-count-gt-MOST_RECORDS.false c.if-partners-count.false
-    c.nested-found.result c.in_default.not-Deepest c.nested-found.ensures
+    c.nested-found.result (search rules) c.nested-found.ensures
 
 pub write_items-requires : goal.write_items-requires
 write_items-requires c =
