@@ -9,7 +9,7 @@ pub const WIDTH: usize = 5;
 
 // A token's kind and span, and the line and column of its start; laid out as C has it, which lends lists of them.
 #[repr(C)]
-#[derive(Clone, Copy)]
+#[derive(Clone, Copy, PartialEq, Eq)]
 pub struct Record {
     pub kind: u32,
     pub start: u32,
