@@ -54,10 +54,9 @@ pub kind-byte : (k : ℕ) → kind_at k < 256
 kind-byte k = rw (← kinds-are k) (bounded 256 kind_list (omega arith) refl k)
 
 -- the starts are the sizes' totals
-totals-are : (ns : List ℕ) (x a : ℕ) → a ≡ start_of x → sized x ns ≡ true → (j : ℕ) → j ≤ length ns → get_or (totals a ns) j 0 ≡ start_of (x + j)
+totals-are : (ns : List ℕ) (x a : ℕ) → a ≡ start_of x → sized x ns ≡ true → (j : ℕ) → j < length ns → get_or (totals a ns) j 0 ≡ start_of (x + j)
 unfolding sized
-totals-are [] x a e t zero h = e ∙ ap start_of (omega arith)
-totals-are [] x a e t (suc j) h = absurd (omega arith)
+totals-are [] x a e t j h = absurd (not-suc-le-zero h)
 totals-are (n ∷ ns) x a e t zero h = e ∙ ap start_of (omega arith)
 totals-are (n ∷ ns) x a e t (suc j) h =
     let q = eqb-true (length (group x)) n (and_left (eqb (length (group x)) n) _ t) in

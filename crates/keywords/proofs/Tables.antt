@@ -77,7 +77,7 @@ sizes =
 
 -- how many words stand before each group
 abbrev pub totals : ℕ → List ℕ → List ℕ
-totals a [] = a ∷ []
+totals a [] = []
 totals a (n ∷ ns) = a ∷ totals (a + n) ns
 
 abbrev pub starts : ℕ → ℕ

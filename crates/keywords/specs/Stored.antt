@@ -1,7 +1,7 @@
 -- How the code stores the word list: the words end to end, the shortest first and those of one length by their first letter; where each
 -- group of words with one length and one first letter begins; and the kinds in the same order. All of it is made from the word list.
 -- Only the contracts of this crate's private functions speak of it. Assumes nothing.
-use Rattle.std.specs.Prelude.{ℕ, zero, suc, ◌+◌, ◌*◌, ◌/◌, ◌%◌, cond, List, [], ◌∷◌, ◌++◌, map, eqb, length, get_or}
+use Rattle.std.specs.Prelude.{ℕ, zero, suc, ◌+◌, ◌/◌, ◌%◌, cond, List, [], ◌∷◌, ◌++◌, map, eqb, length, get_or}
 use Prim.Native.Char.{code}
 use Rattle.keywords.specs.Words.{Entry, word_list}
 use Rattle.keywords.specs.Rows.{of_length}
@@ -45,7 +45,3 @@ kind_at k = get_or (map (λ e. e.kind) stored) k 0
 -- word k, of n bytes, stands at byte n k - s of the store, s being number n here; no word has 0, 1, 14, 15 or 16 bytes
 abbrev pub skips : List ℕ
 skips = 0 ∷ 0 ∷ 0 ∷ 11 ∷ 32 ∷ 79 ∷ 149 ∷ 249 ∷ 370 ∷ 498 ∷ 639 ∷ 784 ∷ 930 ∷ 1079 ∷ 1229 ∷ 1379 ∷ 1529 ∷ 1679 ∷ []
-
--- four bytes in a number, the first the lowest: f (4 c) to f (4 c + 3)
-unfoldable pub quad : (ℕ → ℕ) → ℕ → ℕ
-quad f c = f (4 * c) + 256 * f (4 * c + 1) + 65536 * f (4 * c + 2) + 16777216 * f (4 * c + 3)

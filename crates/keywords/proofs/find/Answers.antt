@@ -6,7 +6,7 @@ use mathlib.Core.Bool.{Bool}
 use lib.ListN.{length}
 use Rattle.keywords.specs.Words.{same}
 use Rattle.keywords.specs.Rows.{row_of}
-use Rattle.keywords.specs.Stored.{stored}
+use Rattle.keywords.specs.Stored.{stored, start_of}
 use Rattle.keywords.proofs.StoredLaws.{word_at, word-length, start_small, left-all, left-more, left-found, left-none}
 use Rattle.keywords.proofs.PlaceLaws.{Place, place, stored-length}
 use Rattle.keywords.proofs.find.Goals as goal
@@ -23,15 +23,21 @@ module _ (t : In-loop-k) where
   abbrev k : ℕ
   k = t.loop-k.k
 
-  ends : t.start_of-end.result ≤ length stored
-  ends = rw t.loop-k.invariant.0 (start_small x (omega arith))
+  ends : start_of (x + 1) ≤ length stored
+  ends = start_small x (omega arith)
+
+  first : start_of x ≤ k
+  first = omega arith
+
+  last : k < start_of (x + 1)
+  last = omega arith
 
   inside : k < 151
-  inside = omega (arith, ends, stored-length)
+  inside = omega (arith, ends, last, stored-length)
 
   here : Place entry.args.n k
   here =
-      let l = word-length x k (omega arith) t.loop-k.invariant.1 (omega arith) in
+      let l = word-length x k (omega arith) first last in
       let n : x / 28 ≡ entry.args.n = omega arith in
       place entry.args.n k inside (l ∙ n)
 
@@ -42,25 +48,16 @@ compares : (q : After-same_row) → q.same_row.result ≡ comparison q.before.be
 compares q = q.same_row.ensures ∙ rw (q.skip.ensures, (here q.before.before).word)
 
 pub loop-k-init : goal.loop-k-init
-loop-k-init c =
-    let a = c.args in
-    let k = c.start_of-k.ensures in
-    let end = c.start_of-end.ensures in
-    (end, omega (arith, k), rw (k, end) (left-all (28 * a.n + a.a) a.row.now (omega arith)))
+loop-k-init c = let a = c.args in rw c.start_of-k.ensures (left-all (28 * a.n + a.a) a.row.now (omega arith))
 
 pub overflow_mul-n : goal.overflow_mul-n
 overflow_mul-n c = record { fits = omega (arith, (here (goal.at.overflow_mul-n c).In-loop-k).small) }
 
-pub skip-requires : goal.skip-requires
-skip-requires c = omega (arith, (entry (goal.at.skip-requires c).In-loop-k).requires.n_bound)
-
 pub overflow_sub-n : goal.overflow_sub-n
 overflow_sub-n c = rw c.skip.ensures (here (goal.at.overflow_sub-n c).In-loop-k).past
 
-pub same_row-requires : goal.same_row-requires
-same_row-requires c =
-    let s = entry (goal.at.same_row-requires c).In-loop-k in
-    record { n_bound = s.requires.n_bound; n_bound_2 = rw c.skip.ensures (here (goal.at.same_row-requires c).In-loop-k).inside; row_len = s.requires.row_len }
+pub same_row-requires-clause-n_bound_2 : goal.same_row-requires-clause-n_bound_2
+same_row-requires-clause-n_bound_2 c = rw c.skip.ensures (here (goal.at.same_row-requires-clause-n_bound_2 c).In-loop-k).inside
 
 pub kind_at-requires : goal.kind_at-requires
 kind_at-requires c = inside (goal.at.kind_at-requires c).In-loop-k
@@ -70,18 +67,16 @@ returns-then-same_row c =
     let q = (goal.at.returns-then-same_row c).After-same_row in
     let t = q.before.before in
     let r = (entry t).args.row.now in
-    let l = t.before.loop-k.invariant.2 in
-    c.kind_at.ensures ∙ sym (left-found (x t) r (k t) _ t.loop-k-test.true (ends t) _ (compares q) c.if-same_row.true l)
+    c.kind_at.ensures ∙ sym (left-found (x t) r (k t) _ (last t) (ends t) _ (compares q) c.if-same_row.true t.before.loop-k.invariant)
 
 pub loop-k-preserved : goal.loop-k-preserved
 loop-k-preserved c =
     let q = (goal.at.loop-k-preserved c).After-same_row in
     let t = q.before.before in
     let r = (entry t).args.row.now in
-    let i = t.before.loop-k.invariant in
-    (i.0, omega (arith, i.1), left-more (x t) r (k t) _ t.loop-k-test.true (ends t) _ (compares q) c.if-same_row.false i.2)
+    left-more (x t) r (k t) _ (last t) (ends t) _ (compares q) c.if-same_row.false t.before.loop-k.invariant
 
 pub returns : goal.returns
 returns c =
     let s = (goal.at.returns c).Start in
-    sym (left-none (28 * s.args.n + s.args.a) s.args.row.now c.loop-k.k _ c.loop-k-test.false c.loop-k.invariant.2)
+    sym (left-none (28 * s.args.n + s.args.a) s.args.row.now c.loop-k.k _ (omega arith) c.loop-k.invariant)

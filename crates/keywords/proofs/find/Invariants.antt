@@ -1,12 +1,8 @@
 -- `keywords::find` meets its contract. The loop's invariant: the words of the group from k on decide the kind. Assumes nothing.
-use Prim.Native.Nat.{◌+◌, ◌*◌, ◌-◌, ◌≤◌}
-use mathlib.Core.Path.{◌≡◌}
+use Prim.Native.Nat.{◌+◌, ◌*◌}
 use Rattle.keywords.specs.Stored.{start_of}
 use Rattle.keywords.proofs.StoredLaws.{Left}
 use Rattle.keywords.proofs.find.Given as goal
 
 abbrev pub invariant-loop-k : goal.invariant-loop-k
-invariant-loop-k l = (l.end ≡ start_of (28 * l.n + l.a + 1)) × (start_of (28 * l.n + l.a) ≤ l.k) × Left (28 * l.n + l.a) l.row l.k l.end
-
-abbrev pub decreases-loop-k : goal.decreases-loop-k
-decreases-loop-k l = l.end - l.k
+invariant-loop-k l = Left (28 * l.n + l.a) l.row l.k (start_of (28 * l.n + l.a + 1))

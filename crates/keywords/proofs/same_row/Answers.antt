@@ -36,38 +36,32 @@ module _ (s : Start) where
   steps : (i : ℕ) → i < 17 → get_or row i 0 ≡ get_or other i 0 → same (drop i row) (drop i other) ≡ same (drop (i + 1) row) (drop (i + 1) other)
   steps = same_step 17 row other s.requires.row_len full
 
-pub returns-then-row-index : goal.returns-then-row-index
-returns-then-row-index c =
-    let s = (goal.at.returns-then-row-index c).Start in
+pub returns-then-row-i : goal.returns-then-row-i
+returns-then-row-i c =
+    let s = (goal.at.returns-then-row-i c).Start in
     let l = c.loop-i in
-    let e = c.index.ensures in
-    sym (l.invariant.1 ∙ stops s l.i (omega arith) (λ q. c.if-row-index.true (rw e q ∙ letter s l.i (omega arith) ∙ sym c.letter_at.ensures)))
+    sym (l.invariant ∙ stops s l.i (omega arith) (λ q. c.if-row-i.true (q ∙ letter s l.i (omega arith) ∙ sym c.letter_at.ensures)))
 
 pub loop-i-preserved : goal.loop-i-preserved
 loop-i-preserved c =
     let s = (goal.at.loop-i-preserved c).Start in
     let l = c.loop-i in
-    let e = c.index.ensures in
-    let q : get_or (row s) l.i 0 ≡ get_or (other s) l.i 0 =
-    rw (← e) c.if-row-index.false ∙ c.letter_at.ensures ∙ sym (letter s l.i (omega arith)) in
-    (omega arith, l.invariant.1 ∙ steps s l.i (omega arith) q)
+    l.invariant ∙ steps s l.i (omega arith) (c.if-row-i.false ∙ c.letter_at.ensures ∙ sym (letter s l.i (omega arith)))
 
-pub returns-then-row-index-ne46 : goal.returns-then-row-index-ne46
-returns-then-row-index-ne46 c =
-    let s = (goal.at.returns-then-row-index-ne46 c).Start in
+pub returns-then-row-i-ne46 : goal.returns-then-row-i-ne46
+returns-then-row-i-ne46 c =
+    let s = (goal.at.returns-then-row-i-ne46 c).Start in
     let l = c.loop-i-2 in
-    let e = c.index-in-loop-i-2.ensures in
-    sym (l.invariant.2 ∙ stops s l.i (omega arith) (λ q. c.if-row-index-ne46.true (rw e q ∙ dot s l.i (omega arith) (omega arith))))
+    sym (l.invariant ∙ stops s l.i (omega arith) (λ q. c.if-row-i-ne46.true (q ∙ dot s l.i (omega arith) (omega arith))))
 
 pub loop-i-2-preserved : goal.loop-i-2-preserved
 loop-i-2-preserved c =
     let s = (goal.at.loop-i-2-preserved c).Start in
     let l = c.loop-i-2 in
-    let e = c.index-in-loop-i-2.ensures in
-    (omega arith, omega arith, l.invariant.2 ∙ steps s l.i (omega arith) (rw (← e) c.if-row-index-ne46.false ∙ sym (dot s l.i (omega arith) (omega arith))))
+    l.invariant ∙ steps s l.i (omega arith) (c.if-row-i-ne46.false ∙ sym (dot s l.i (omega arith) (omega arith)))
 
 pub returns : goal.returns
 returns c =
     let s = (goal.at.returns c).Start in
     let l = c.loop-i-2 in
-    sym (l.invariant.2 ∙ same_end 17 s.args.row.now _ s.requires.row_len (full s) l.i (omega arith))
+    sym (l.invariant ∙ same_end 17 s.args.row.now _ s.requires.row_len (full s) l.i (omega arith))

