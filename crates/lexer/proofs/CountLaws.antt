@@ -7,6 +7,7 @@ use mathlib.Core.List.{List, [], ◌∷◌}
 use lib.ListN.{get_or, take, drop, length-take}
 use lib.Seq.{drop-drop, take-nil}
 use borrow.Author.Tests.{not-true}
+use Rattle.std.specs.Prelude.{Ok, Err}
 use Rattle.keywords.proofs.Logic.{split, and_left, and_right, and-false, every}
 use Rattle.words.specs.Bytes.{is, is_digit, is_hexdigit}
 use Rattle.grammar.specs.Form.{Set, D, H, no, ◌or◌, one_of, holds}
@@ -15,9 +16,7 @@ use Rattle.grammar.specs.Runs.{char, sees, part}
 use Rattle.grammar.proofs.Seen.{inside, inside-holds, seen-in, seen-holds}
 use Rattle.grammar.proofs.Counts.{count-append, count-few, none_before}
 use Rattle.grammar.proofs.Places.{Only, Counted, Hex}
-use Rattle.lexer.specs.declared.digits.Digits.{Digits}
-use Rattle.lexer.specs.declared.digits.Digits.TheVariants.{Read, Bad}
-use Rattle.lexer.specs.Eaten.{tally, groups}
+use Rattle.lexer.specs.Eaten.{tally, groups, Digits}
 use Rattle.lexer.proofs.SpanLaws.{tail, seen, part-snoc}
 
 -- digits and underscores are not the same
@@ -64,8 +63,8 @@ module _ (t : Set) {s : List ℕ} {from at n u : ℕ} (o : from ≤ at) (p : Cou
 -- behind a run of digits
 module _ {t : Set} (apart : Apart t) (s : List ℕ) (from : ℕ) where
   abbrev Told : Digits → Type 0
-  Told (Read a) = Counted t s from a.cursor.at a.digits a.underscores
-  Told (Bad g e) = Unit {0}
+  Told (Ok a) = Counted t s from a.cursor.at a.digits a.underscores
+  Told (Err b) = Unit {0}
 
   counts : (l : List ℕ) (g i n u : ℕ) → drop i s ≡ l → from ≤ i → Counted t s from i n u → Told (groups t g i n u l)
   unfolding groups
@@ -80,7 +79,7 @@ module _ {t : Set} (apart : Apart t) (s : List ℕ) (from : ℕ) where
       (λ f. rw (x, z, f) tt))
       (λ z. rw (x, z) p))
 
-  pub counted-run : (i n u : ℕ) → from ≤ i → Counted t s from i n u → {e d v : ℕ} → Read (tally e d v) ≡ groups t i i n u (drop i s) → Counted t s from e d v
+  pub counted-run : (i n u : ℕ) → from ≤ i → Counted t s from i n u → {e d v : ℕ} → Ok (tally e d v) ≡ groups t i i n u (drop i s) → Counted t s from e d v
   counted-run i n u o p f = subst Told (sym f) (counts (drop i s) i i n u refl o p)
 
 -- no more than there are bytes

@@ -5,6 +5,7 @@ use mathlib.Core.Path.{◌≡◌, refl, sym, subst}
 use mathlib.Core.Bool.{true, false, ◌&&◌}
 use mathlib.Core.List.{List, [], ◌∷◌}
 use lib.ListN.{length, drop}
+use Rattle.std.specs.Prelude.{Ok, Err}
 use Rattle.keywords.proofs.Logic.{split}
 use Rattle.grammar.specs.declared.profile.Profile.{Profile}
 use Rattle.grammar.specs.Form.{Set, no, holds}
@@ -13,9 +14,7 @@ use Rattle.grammar.proofs.States.{State, met}
 use Rattle.grammar.proofs.Seen.{inside, moved-one, seen-in}
 use Rattle.grammar.proofs.Scan.{goes, meets}
 use Rattle.grammar.proofs.Reading.{ReadsUnder, EndsUnder, reads-eat, reads-joined, reads-stop}
-use Rattle.lexer.specs.declared.digits.Digits.{Digits}
-use Rattle.lexer.specs.declared.digits.Digits.TheVariants.{Read, Bad}
-use Rattle.lexer.specs.Eaten.{cursor, tally, groups}
+use Rattle.lexer.specs.Eaten.{tally, groups, Digits, span}
 use Rattle.grammar.proofs.Places.{Only, Group}
 use Rattle.lexer.proofs.SpanLaws.{tail, seen, missed, only-snoc, group-digit, group-start}
 
@@ -50,8 +49,8 @@ pub record Stuck (t : Set) (π : Profile) (s : List ℕ) (from i g e k : ℕ) : 
   pub text : line < length s
 
 abbrev Result : Set → Set → Profile → List ℕ → ℕ → ℕ → State → ℕ → Digits → Type 0
-Result t v π s from i q k (Read a) = After t v π s from i a.cursor.at q
-Result t v π s from i q k (Bad g c) = Stuck t π s from i g.at c.at k
+Result t v π s from i q k (Ok a) = After t v π s from i a.cursor.at q
+Result t v π s from i q k (Err b) = Stuck t π s from i b.from.at b.to.at k
 
 module _ {t v : Set} {q u : State} {k : ℕ} (run : Run t v q u k) (s : List ℕ) (from : ℕ) where
   reads-digits : {π : Profile} (base : ℕ) (l : List ℕ) (g i n m : ℕ)
@@ -79,8 +78,8 @@ module _ {t v : Set} {q u : State} {k : ℕ} (run : Run t v q u k) (s : List ℕ
       (λ z. rw (x, z) (record { reads = p; only = o; digit = y; line = missed s i b l e (char "_") z; up = omega arith })))
 
   module _ {π : Profile} {i : ℕ} (p : ReadsUnder π s from i q) (o : Only v s from i) (r : Group t s from i i) (n m : ℕ) where
-    pub digits-after : {e d x : ℕ} → Read (tally e d x) ≡ groups t i i n m (drop i s) → After t v π s from i e q
+    pub digits-after : {e d x : ℕ} → Ok (tally e d x) ≡ groups t i i n m (drop i s) → After t v π s from i e q
     digits-after f = subst (Result t v π s from i q k) (sym f) (reads-digits i (drop i s) i i n m refl p o r (omega arith) (omega arith))
 
-    pub digits-stuck : {g e : ℕ} → Bad (cursor g) (cursor e) ≡ groups t i i n m (drop i s) → Stuck t π s from i g e k
+    pub digits-stuck : {g e : ℕ} → Err (span g e) ≡ groups t i i n m (drop i s) → Stuck t π s from i g e k
     digits-stuck f = subst (Result t v π s from i q k) (sym f) (reads-digits i (drop i s) i i n m refl p o r (omega arith) (omega arith))

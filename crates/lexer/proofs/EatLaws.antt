@@ -3,36 +3,38 @@ use Prim.Native.Nat.{ℕ, ◌+◌, ◌≤◌, ◌<◌}
 use native.Mathlib.Nat.{add-zero}
 use native.Mathlib.Numerals.{add-one}
 use native.Mathlib.Omega.{arith}
-use mathlib.Core.Path.{◌≡◌, refl, sym, ◌∙◌, ap}
+use mathlib.Core.Path.{◌≡◌, refl, sym, ◌∙◌, ap, subst}
 use mathlib.Core.Bool.{Bool, true, false, ◌&&◌, true≢false}
 use mathlib.Core.List.{List, [], ◌∷◌}
-use lib.ListN.{length, get_or, drop, drop_of_length-le}
-use lib.Seq.{drop-cons, drop-drop}
+use lib.ListN.{length, get_or, take, drop, length-drop, drop_of_length-le}
+use lib.Seq.{drop-cons, drop-drop, take-length}
+use denote.Ref.{Bor}
+use Rattle.std.specs.Prelude.{Option, Some, None, Ok, Err, MatchOption, unwrap_or, option_copied}
+use Rattle.std.specs.List.{AllWithin, HoldsAt, slice_range}
+use Rattle.std.specs.Slice.{IsItemAt}
+use Rattle.std.proofs.lemmas.Iterator.{index_from_first}
 use Rattle.keywords.proofs.Logic.{split, and_left, and-false}
 use Rattle.grammar.specs.Form.{Set, byte, no, ◌or◌, holds}
 use Rattle.grammar.specs.Answers.{is_hex}
 use Rattle.grammar.specs.Runs.{char, sees_pair, sees, run_length, moved, optional, over}
 use Rattle.grammar.proofs.Seen.{moved-one, optional-one, over-on, moved_up, seen-in, pair-seen}
-use Rattle.lexer.specs.declared.cursor.Peek.TheVariants.{Byte, Nothing}
-use Rattle.lexer.specs.declared.cursor.Past.{Past}
-use Rattle.lexer.specs.declared.cursor.Past.TheVariants.{Found, Missed}
-use Rattle.lexer.specs.Eaten.{cursor, head, past}
+use Rattle.lexer.specs.Eaten.{cursor, head, past, Past}
 
 -- what is peeked
-pub head-some : (s : List ℕ) (at : ℕ) → at < length s → Byte (get_or s at 0) ≡ head (drop at s)
+pub head-some : (s : List ℕ) (at : ℕ) → at < length s → Some (get_or s at 0) ≡ head (drop at s)
 unfolding head
 head-some s at h = rw (drop-cons s at 0 h)
 
-pub head-none : (s : List ℕ) (at : ℕ) → length s ≤ at → Nothing ≡ head (drop at s)
+pub head-none : (s : List ℕ) (at : ℕ) → length s ≤ at → None ≡ head (drop at s)
 unfolding head
 head-none s at h = rw (drop_of_length-le s h)
 
-pub head-sees : (t : Set) (b : ℕ) (l : List ℕ) → Byte b ≡ head l → holds t b ≡ sees t l
+pub head-sees : (t : Set) (b : ℕ) (l : List ℕ) → Some b ≡ head l → holds t b ≡ sees t l
 unfolding sees head
 head-sees t b [] e = absurd (let z : ◌≡◌ {A = Bool} true false = cc in true≢false z)
 head-sees t b (x ∷ l) e = let d : b ≡ x = cc in ap (holds t) d
 
-pub none-sees : (t : Set) (l : List ℕ) → Nothing ≡ head l → false ≡ sees t l
+pub none-sees : (t : Set) (l : List ℕ) → None ≡ head l → false ≡ sees t l
 unfolding sees head
 none-sees t [] e = refl
 none-sees t (x ∷ l) e = absurd (let z : ◌≡◌ {A = Bool} true false = cc in true≢false z)
@@ -46,19 +48,28 @@ pub moved-not : (s : List ℕ) (at : ℕ) → length s ≤ at → at ≡ moved a
 unfolding moved
 moved-not s at h = rw (drop_of_length-le s h, add-zero)
 
--- a loop over a run: from i it ends where it ends from the start
+pub peeked : (s : List ℕ) (at : ℕ) (r : Option (Bor ℕ)) → IsItemAt s at r → option_copied r ≡ head (drop at s)
+peeked s at None e = head-none s at e.3
+peeked s at (Some x) e = ap Some (e.4 (omega arith) 0) ∙ head-some s at e.3.0
+
+-- a run that goes to the end, and one up to the first byte that the set has not
 module _ (t : Set) (s : List ℕ) (i : ℕ) where
   pub over-more : i < length s → holds t (get_or s i 0) ≡ true → over t i s ≡ over t (i + 1) s
   unfolding over run_length
   over-more h e = rw (drop-cons s i 0 h, e, add-one i) (omega arith)
 
-  pub over-stop : i < length s → holds t (get_or s i 0) ≡ false → over t i s ≡ i
+  pub over-end : length s < i → i ≡ over t i s
   unfolding over run_length
-  over-stop h e = rw (drop-cons s i 0 h, e, add-zero)
+  over-end h = rw (drop_of_length-le s {i = i} (omega arith), add-zero)
 
-  pub over-end : length s ≤ i → over t i s ≡ i
+  pub over-first : (l : List ℕ) → l ≡ slice_range s i (length s) → (o : Option ℕ)
+      → MatchOption o (AllWithin (λ b. holds t b ≡ true) l 0 (length l)) (λ k. (k < length l) × HoldsAt (λ b. holds t b ≡ false) l k × AllWithin (λ b. holds t b ≡ true) l 0 k)
+      → i + unwrap_or o (length l) ≡ over t i s
   unfolding over run_length
-  over-end h = rw (drop_of_length-le s h, add-zero)
+  over-first l e o f =
+      let n = index_from_first (run_length t) (λ b. holds t b ≡ false) (λ b. holds t b ≡ true) refl (λ x xs h. rw h) (λ x xs h. rw h (omega arith)) l o f in
+      let whole : l ≡ drop i s = e ∙ subst (λ (n : ℕ). take n (drop i s) ≡ drop i s) (length-drop i s) (take-length (drop i s)) in
+      rw (← n, whole)
 
 -- `::`
 pub pair-first : (l : List ℕ) → false ≡ sees (char ":") l → false ≡ sees_pair l
@@ -100,16 +111,16 @@ pub optional-taken : (t : Set) (s : List ℕ) (at d : ℕ) → sees t (drop at s
 optional-taken t s at d e f = f ∙ moved-one t s at e ∙ sym (optional-one t s at e)
 
 abbrev place : Past → ℕ
-place (Found c) = c.at
-place (Missed c) = c.at
+place (Ok c) = c.at
+place (Err c) = c.at
 
 -- the next byte of a kind, and behind it
 module _ (b : ℕ) (s : List ℕ) (at stop : ℕ) (e : stop ≡ over (no (byte b)) at s) where
-  pub past-found : (d : ℕ) → sees (byte b) (drop stop s) ≡ true → d ≡ moved stop s → Found (cursor d) ≡ past b at s
+  pub past-found : (d : ℕ) → sees (byte b) (drop stop s) ≡ true → d ≡ moved stop s → Ok (cursor d) ≡ past b at s
   unfolding past
   past-found d h f = let g : d ≡ stop + 1 = f ∙ moved-one (byte b) s stop h in rw (← e, h, g)
 
-  pub past-missed : sees (byte b) (drop stop s) ≡ false → Missed (cursor stop) ≡ past b at s
+  pub past-missed : sees (byte b) (drop stop s) ≡ false → Err (cursor stop) ≡ past b at s
   unfolding past
   past-missed h = rw (← e, h)
 
@@ -120,7 +131,7 @@ pub record Reached (b : ℕ) (s : List ℕ) (at d : ℕ) : Type 0 where
   pub seen : sees (byte b) (drop stop s) ≡ true
   pub next : d ≡ moved stop s
 
-pub found-past : (b : ℕ) (s : List ℕ) (at d : ℕ) → Found (cursor d) ≡ past b at s → Reached b s at d
+pub found-past : (b : ℕ) (s : List ℕ) (at d : ℕ) → Ok (cursor d) ≡ past b at s → Reached b s at d
 unfolding past
 found-past b s at d =
     let stop = over (no (byte b)) at s in
@@ -128,7 +139,7 @@ found-past b s at d =
     (λ e. let h = e in rw e (λ f. record { stop = stop; run = refl; seen = h; next = ap place f ∙ sym (moved-one (byte b) s stop h) }))
     (λ e. rw e (λ f. absurd (let z : ◌≡◌ {A = Bool} true false = cc in true≢false z)))
 
-pub missed-past : (b : ℕ) (s : List ℕ) (at d : ℕ) → Missed (cursor d) ≡ past b at s → (d ≡ over (no (byte b)) at s) × (sees (byte b) (drop d s) ≡ false)
+pub missed-past : (b : ℕ) (s : List ℕ) (at d : ℕ) → Err (cursor d) ≡ past b at s → (d ≡ over (no (byte b)) at s) × (sees (byte b) (drop d s) ≡ false)
 unfolding past
 missed-past b s at d =
     let stop = over (no (byte b)) at s in

@@ -2,11 +2,12 @@
 use Prim.Native.Nat.{ℕ, ◌+◌, ◌-◌, ◌≤◌, ◌<◌}
 use native.Mathlib.Omega.{arith}
 use mathlib.Core.Path.{◌≡◌, refl, sym, ◌∙◌}
-use mathlib.Core.Bool.{true, false, ◌&&◌, true≢false}
+use mathlib.Core.Bool.{true, false, ◌&&◌}
 use mathlib.Core.Logic.{◌⊎◌, inl, inr}
 use mathlib.Core.List.{List, [], ◌∷◌}
 use lib.Dec.{eqb}
 use lib.ListN.{length, drop}
+use Rattle.std.specs.Prelude.{Ok, Err}
 use Rattle.keywords.proofs.Logic.{split, or-false}
 use Rattle.words.specs.Bytes.{is_digit, is_hexdigit, is_identifier_start, is_identifier_continue, is_blank}
 use Rattle.grammar.specs.declared.profile.Profile.{Profile}
@@ -24,8 +25,7 @@ use Rattle.grammar.proofs.Reading.{ReadsUnder, EndsUnder, behind, behind_under, 
 use Rattle.lexer.specs.declared.lexed.Refusal.TheVariants.{BadExponentPart}
 use Rattle.lexer.specs.declared.lexed.Lexed.{Lexed}
 use Rattle.lexer.specs.declared.lexed.Lexed.TheVariants.{Refused}
-use Rattle.lexer.specs.declared.digits.Digits.TheVariants.{Read, Bad}
-use Rattle.lexer.specs.Eaten.{cursor, tally, groups}
+use Rattle.lexer.specs.Eaten.{cursor, tally, groups, span}
 use Rattle.grammar.proofs.Places.{Group, Counted, Exponent}
 use Rattle.lexer.specs.Values.{LexesUnder}
 use Rattle.lexer.proofs.SpanLaws.{init-long, only-any, first-in, group-start}
@@ -51,15 +51,10 @@ steps Turso = record { sign = refl; stop = refl; rule = refl; sign-stop = refl; 
 steps Sqlite = record { sign = refl; stop = refl; rule = refl; sign-stop = refl; sign-rule = refl }
 
 -- what may begin an exponent's digits, as it is tested
-pub begins-digit : {π : Profile} → π ≡ Turso → (l : List ℕ) → sees D l ≡ true → true ≡ sees (exponent_start π) l
+pub begins-turso : {π : Profile} → π ≡ Turso → (l : List ℕ) → sees (D or byte 95) l ≡ sees (exponent_start π) l
 unfolding sees
-begins-digit e [] h = absurd (true≢false (sym h))
-begins-digit e (b ∷ l) h = rw (e, h)
-
-pub begins-line : {π : Profile} → π ≡ Turso → (l : List ℕ) → sees D l ≡ false → sees (byte 95) l ≡ sees (exponent_start π) l
-unfolding sees
-begins-line e [] h = refl
-begins-line e (b ∷ l) h = rw (e, h) (sym (or-false (eqb b 95)))
+begins-turso e [] = refl
+begins-turso e (b ∷ l) = rw (e, or-false (eqb b 95))
 
 pub begins-near : {π : Profile} → π ≡ Sqlite → (l : List ℕ) → sees D l ≡ sees (exponent_start π) l
 begins-near e l = rw e
@@ -164,10 +159,10 @@ module _ {π : Profile} {s : List ℕ} {from at d n : ℕ} (p : Exponent π s fr
       span-lexes x BadExponentPart _ _ refl _ _ (omega arith) (omega arith) r f
 
   module _ (h : sees (exponent_start π) (drop n s) ≡ true) where
-    pub exponent-stuck : (m u : ℕ) {k e : ℕ} → Bad (cursor k) (cursor e) ≡ groups D n n m u (drop n s) → Stuck D π s from n k e underscore_rule
+    pub exponent-stuck : (m u : ℕ) {k e : ℕ} → Err (span k e) ≡ groups D n n m u (drop n s) → Stuck D π s from n k e underscore_rule
     exponent-stuck m u b = digits-stuck exponent-run s from (exponent-digits h) (only-any s from n) exponent-group m u b
 
-    pub exponent-after : (m u : ℕ) {e i v : ℕ} → Read (tally e i v) ≡ groups D n n m u (drop n s) → After D any π s from n e (behind "1e5")
+    pub exponent-after : (m u : ℕ) {e i v : ℕ} → Ok (tally e i v) ≡ groups D n n m u (drop n s) → After D any π s from n e (behind "1e5")
     exponent-after m u b = digits-after exponent-run s from (exponent-digits h) (only-any s from n) exponent-group m u b
 
   pub exponent-word-lexed : {e : ℕ} → After D any π s from n e (behind "1e5") → sees S (drop e s) ≡ true

@@ -5,6 +5,7 @@ use mathlib.Core.Path.{◌≡◌, refl, ◌∙◌}
 use mathlib.Core.Bool.{true, false, ◌&&◌}
 use mathlib.Core.List.{List, [], ◌∷◌}
 use lib.ListN.{drop}
+use Rattle.std.specs.Prelude.{Ok, Err}
 use Rattle.keywords.specs.Kinds.{kind}
 use Rattle.keywords.specs.Text.{bytes}
 use Rattle.words.specs.Bytes.{is_digit, is_hexdigit, is_identifier_start, is_identifier_continue, is_blank}
@@ -22,8 +23,7 @@ use Rattle.grammar.proofs.Reading.{ReadsUnder, EndsUnder, behind, behind_under, 
 use Rattle.lexer.specs.declared.lexed.Refusal.TheVariants.{BadFractionalPart}
 use Rattle.lexer.specs.declared.lexed.Lexed.{Lexed}
 use Rattle.lexer.specs.declared.lexed.Lexed.TheVariants.{Token, Refused}
-use Rattle.lexer.specs.declared.digits.Digits.TheVariants.{Read, Bad}
-use Rattle.lexer.specs.Eaten.{cursor, tally, groups}
+use Rattle.lexer.specs.Eaten.{cursor, tally, groups, span}
 use Rattle.grammar.proofs.Places.{At, Only, Group, Counted, Dot, Fraction, Exponent}
 use Rattle.lexer.specs.Values.{LexesUnder}
 use Rattle.lexer.proofs.AnswerLaws.{token-lexes}
@@ -176,10 +176,10 @@ module _ {π : Profile} {s : List ℕ} {from at dot : ℕ} (p : Fraction π s fr
   unfolding is_digit
   fraction-group = rw p.next (group-start D s from dot p.ordered (char ".") refl p.seen)
 
-  pub fraction-stuck : (n u : ℕ) {g e : ℕ} → Bad (cursor g) (cursor e) ≡ groups D at at n u (drop at s) → Stuck D π s from at g e underscore_rule
+  pub fraction-stuck : (n u : ℕ) {g e : ℕ} → Err (span g e) ≡ groups D at at n u (drop at s) → Stuck D π s from at g e underscore_rule
   fraction-stuck n u b = digits-stuck (steps π).run s from p.reads through-dot fraction-group n u b
 
-  pub fraction-after : (n u : ℕ) {e d x : ℕ} → Read (tally e d x) ≡ groups D at at n u (drop at s) → After D (D or one_of "_.") π s from at e (behind_under π "1.5")
+  pub fraction-after : (n u : ℕ) {e d x : ℕ} → Ok (tally e d x) ≡ groups D at at n u (drop at s) → After D (D or one_of "_.") π s from at e (behind_under π "1.5")
   fraction-after n u b = digits-after (steps π).run s from p.reads through-dot fraction-group n u b
 
   pub fraction-word-lexed : {e : ℕ} → After D (D or one_of "_.") π s from at e (behind_under π "1.5") → sees (char "e" or char "E") (drop e s) ≡ false

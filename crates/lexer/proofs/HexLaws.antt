@@ -5,6 +5,7 @@ use mathlib.Core.Path.{◌≡◌, refl, sym, ◌∙◌, ap}
 use mathlib.Core.Bool.{Bool, true, false, true≢false}
 use mathlib.Core.List.{List}
 use lib.ListN.{drop}
+use Rattle.std.specs.Prelude.{Ok, Err}
 use Rattle.keywords.proofs.Logic.{split}
 use Rattle.words.specs.Bytes.{is_digit, is_hexdigit, is_identifier_start, is_identifier_continue, is_blank}
 use Rattle.grammar.specs.Form.{none, H, S, any, no, ◌or◌, ◌except◌}
@@ -18,9 +19,7 @@ use Rattle.grammar.proofs.Reading.{Reads, Ends, behind, ends-long, reads-eat, re
 use Rattle.lexer.specs.declared.lexed.Refusal.TheVariants.{BadNumber, MalformedHexInteger}
 use Rattle.lexer.specs.declared.lexed.Lexed.{Lexed}
 use Rattle.lexer.specs.declared.lexed.Lexed.TheVariants.{Refused}
-use Rattle.lexer.specs.declared.digits.Digits.{Digits}
-use Rattle.lexer.specs.declared.digits.Digits.TheVariants.{Read, Bad}
-use Rattle.lexer.specs.Eaten.{cursor, tally, groups, hex_groups}
+use Rattle.lexer.specs.Eaten.{cursor, tally, groups, hex_groups, Digits, span}
 use Rattle.grammar.proofs.Places.{Counted, Hex}
 use Rattle.lexer.specs.Values.{Lexes}
 use Rattle.lexer.proofs.SpanLaws.{init-part, init-long, only-any}
@@ -64,7 +63,7 @@ module _ {s : List ℕ} {from at : ℕ} (p : Hex s from at) (n u : ℕ) where
   hex-plain b h = b ∙ hex-groups at n u (drop at s) h
 
   -- `_` at once, or behind digits
-  pub hex-bad-lexed : {g e : ℕ} → Bad (cursor g) (cursor e) ≡ hex_groups at n u (drop at s) → (r : Lexed) → r ≡ Refused BadNumber g (e - g) (cursor from)
+  pub hex-bad-lexed : {g e : ℕ} → Err (span g e) ≡ hex_groups at n u (drop at s) → (r : Lexed) → r ≡ Refused BadNumber g (e - g) (cursor from)
       → Lexes s from r
   unfolding rules answer
   hex-bad-lexed {g} {e} b r f =
@@ -78,7 +77,7 @@ module _ {s : List ℕ} {from at : ℕ} (p : Hex s from at) (n u : ℕ) where
       (λ k. hex-stuck-lexed r f (omega arith) (digits-stuck hex-run s from (hex-reads k) (only-any s from at) p.run n u (hex-plain b h)))
       (λ k. absurd (let z = hex-plain b h ∙ groups-read H at at n u (drop at s) k h in let y : ◌≡◌ {A = Bool} true false = cc in true≢false y)))
 
-  pub hex-span : {g e : ℕ} → Bad (cursor g) (cursor e) ≡ hex_groups at n u (drop at s) → g ≤ e
+  pub hex-span : {g e : ℕ} → Err (span g e) ≡ hex_groups at n u (drop at s) → g ≤ e
   hex-span {g} {e} b =
       split (sees (char "_") (drop at s))
       (λ h. let z = b ∙ hex-empty at n u (drop at s) h in omega (arith, ap first_of z, ap end_of z))
@@ -87,7 +86,7 @@ module _ {s : List ℕ} {from at : ℕ} (p : Hex s from at) (n u : ℕ) where
       omega (arith, stuck.inside, stuck.last))
       (λ k. absurd (let z = hex-plain b h ∙ groups-read H at at n u (drop at s) k h in let y : ◌≡◌ {A = Bool} true false = cc in true≢false y)))
 
-  module _ {e i v : ℕ} (b : Read (tally e i v) ≡ hex_groups at n u (drop at s)) where
+  module _ {e i v : ℕ} (b : Ok (tally e i v) ≡ hex_groups at n u (drop at s)) where
     starts : sees (char "_") (drop at s) ≡ false
     starts =
         split (sees (char "_") (drop at s))
@@ -112,7 +111,7 @@ module _ {s : List ℕ} {from at : ℕ} (p : Hex s from at) (n u : ℕ) where
     hex-missing-lexed m r f = let w = p.two in span-lexes (hex-missing m) MalformedHexInteger 0 2 refl _ _ (omega arith) (omega arith) r f
 
 -- the digits and underscores behind `0x`
-pub hex-counted : {s : List ℕ} {from at : ℕ} → Hex s from at → {e d x : ℕ} → Read (tally e d x) ≡ hex_groups at 0 0 (drop at s) → Counted H s at e d x
+pub hex-counted : {s : List ℕ} {from at : ℕ} → Hex s from at → {e d x : ℕ} → Ok (tally e d x) ≡ hex_groups at 0 0 (drop at s) → Counted H s at e d x
 hex-counted {s} {from} {at} p b = counted-run hex-apart s at at 0 0 (omega arith) (counted_none H s at) (hex-plain p 0 0 b (starts p 0 0 b))
 
 -- behind hexadecimal digits

@@ -5,6 +5,7 @@ use mathlib.Core.Path.{◌≡◌, refl, ◌∙◌}
 use mathlib.Core.Bool.{true, false, ◌&&◌}
 use mathlib.Core.List.{List, [], ◌∷◌}
 use lib.ListN.{drop}
+use Rattle.std.specs.Prelude.{Ok, Err}
 use Rattle.keywords.proofs.Logic.{split}
 use Rattle.words.specs.Bytes.{is_digit, is_hexdigit, is_identifier_start, is_identifier_continue, is_blank}
 use Rattle.grammar.specs.declared.profile.Profile.{Profile}
@@ -21,8 +22,7 @@ use Rattle.grammar.proofs.Reading.{ReadsUnder, EndsUnder, reads-alike, behind, b
 use Rattle.lexer.specs.declared.lexed.Refusal.TheVariants.{BadNumber}
 use Rattle.lexer.specs.declared.lexed.Lexed.{Lexed}
 use Rattle.lexer.specs.declared.lexed.Lexed.TheVariants.{Refused}
-use Rattle.lexer.specs.declared.digits.Digits.TheVariants.{Read, Bad}
-use Rattle.lexer.specs.Eaten.{cursor, tally, groups}
+use Rattle.lexer.specs.Eaten.{cursor, tally, groups, span}
 use Rattle.grammar.proofs.Places.{At, Only, Group, Counted, Decimal, Dot, Exponent, Hex}
 use Rattle.lexer.specs.Values.{Lexes, LexesUnder}
 use Rattle.lexer.proofs.EatLaws.{hex-zero, hex-then}
@@ -73,10 +73,10 @@ steps Sqlite = record {
 
 -- behind a number's first digit
 module _ {π : Profile} {s : List ℕ} {from at : ℕ} (p : Decimal π s from at) (n u : ℕ) where
-  pub decimal-stuck : {g e : ℕ} → Bad (cursor g) (cursor e) ≡ groups D at at n u (drop at s) → Stuck D π s from at g e underscore_rule
+  pub decimal-stuck : {g e : ℕ} → Err (span g e) ≡ groups D at at n u (drop at s) → Stuck D π s from at g e underscore_rule
   decimal-stuck b = digits-stuck (steps π).run s from p.reads p.digits p.run n u b
 
-  pub decimal-after : {e d x : ℕ} → Read (tally e d x) ≡ groups D at at n u (drop at s) → After D (D or one_of "_") π s from at e (behind_under π "1")
+  pub decimal-after : {e d x : ℕ} → Ok (tally e d x) ≡ groups D at at n u (drop at s) → After D (D or one_of "_") π s from at e (behind_under π "1")
   decimal-after b = digits-after (steps π).run s from p.reads p.digits p.run n u b
 
 -- behind its digits

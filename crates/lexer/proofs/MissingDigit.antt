@@ -10,15 +10,14 @@ use mathlib.Core.List.{List}
 use lib.Dec.{eqb}
 use lib.ListN.{drop, length}
 use borrow.Author.Tests.{eqb-true}
+use Rattle.std.specs.Prelude.{Ok, Err}
 use Rattle.keywords.specs.Text.{bytes}
 use Rattle.keywords.proofs.Logic.{split}
 use Rattle.words.specs.Bytes.{is_hexdigit, is_digit}
 use Rattle.grammar.specs.Form.{Set, D, H}
 use Rattle.grammar.specs.Runs.{char, sees, run_length, moved, over}
 use Rattle.grammar.proofs.Seen.{moved-one, over-on, seen-in}
-use Rattle.lexer.specs.declared.digits.Digits.{Digits}
-use Rattle.lexer.specs.declared.digits.Digits.TheVariants.{Read, Bad}
-use Rattle.lexer.specs.Eaten.{cursor, tally, groups, hex_groups}
+use Rattle.lexer.specs.Eaten.{tally, groups, hex_groups, Digits, span}
 use Rattle.lexer.proofs.GroupLaws.{group-read, group-bad, group-more}
 
 -- digits of a set, none or some, from a place on, and a `_` behind them
@@ -48,8 +47,8 @@ rust_run (suc n) x s start d u =
     let next = moved end s in
     let more = d + (end - start) in
     cond (sees (char "_") (drop end s))
-    (cond (eqb start next) (x start) (cond (sees D (drop next s)) (rust_run n x s next more (u + 1)) (Bad (cursor start) (cursor next))))
-    (Read (tally end more u))
+    (cond (eqb start next) (x start) (cond (sees D (drop next s)) (rust_run n x s next more (u + 1)) (Err (span start next))))
+    (Ok (tally end more u))
 
 module _ (x : ℕ → Digits) (s : List ℕ) where
   abbrev AsPromised : ℕ → ℕ → ℕ → ℕ → Type 0
@@ -86,6 +85,6 @@ unfolding sees over run_length is_hexdigit is_digit
 hex-holds = (refl, refl)
 
 -- The run there as it is promised, and without the test.
-pub hex-tells : (hex_groups 2 0 0 (drop 2 (bytes "0x_1")) ≡ Bad (cursor 2) (cursor 2)) × (groups H 2 2 0 0 (drop 2 (bytes "0x_1")) ≡ Read (tally 4 1 1))
+pub hex-tells : (hex_groups 2 0 0 (drop 2 (bytes "0x_1")) ≡ Err (span 2 2)) × (groups H 2 2 0 0 (drop 2 (bytes "0x_1")) ≡ Ok (tally 4 1 1))
 unfolding hex_groups groups sees is_hexdigit is_digit
 hex-tells = (refl, refl)

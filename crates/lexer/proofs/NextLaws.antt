@@ -4,22 +4,22 @@ use native.Mathlib.Omega.{arith}
 use mathlib.Core.Path.{◌≡◌, refl, sym, ◌∙◌, ap, subst}
 use mathlib.Core.Bool.{Bool, true, false, true≢false}
 use mathlib.Core.List.{List, [], ◌∷◌}
-use mathlib.Core.Logic.{inl, inr}
+use mathlib.Core.Logic.{◌⊎◌, inl, inr}
 use lib.Dec.{ltb}
 use lib.ListN.{length, drop}
 use lib.Seq.{drop-cons}
 use borrow.Author.Tests.{eqb-true, eq-eqb, ne_eqb, ltb-true, ltb-false}
+use Rattle.std.specs.Prelude.{Some, None}
 use Rattle.keywords.specs.Text.{bytes}
 use Rattle.keywords.specs.Words.{kind_in}
 use Rattle.keywords.proofs.Logic.{split}
 use Rattle.words.specs.Bytes.{is_digit, is_identifier_start, is_blank}
 use Rattle.grammar.specs.declared.profile.Profile.{Profile}
-use Rattle.grammar.specs.Form.{Set, none, D, S, blank, byte, no, ◌or◌, holds}
+use Rattle.grammar.specs.Form.{Set, none, D, S, blank, byte, no, ◌or◌, one_of, holds}
 use Rattle.grammar.specs.Classes.{operators, U}
 use Rattle.grammar.specs.Runs.{sees}
 use Rattle.grammar.proofs.Seen.{inside, inside-sees, inside-holds, misses-none, moved-one}
 use Rattle.grammar.proofs.Reading.{alike_first, first_alike}
-use Rattle.lexer.specs.declared.cursor.Peek.TheVariants.{Byte, Nothing}
 use Rattle.lexer.specs.declared.lexed.Refusal.TheVariants.{OffsetPastEnd}
 use Rattle.lexer.specs.declared.lexed.Lexed.{Lexed}
 use Rattle.lexer.specs.declared.lexed.Lexed.TheVariants.{Token, End, Refused}
@@ -34,7 +34,7 @@ pub past-lexed : (π : Profile) (s : List ℕ) (at : ℕ) → length s < at → 
 unfolding LexesUnder
 past-lexed π s at h = inl (h, refl)
 
-pub end-lexed : (π : Profile) (s : List ℕ) (at : ℕ) → at ≤ length s → Nothing ≡ head (drop at s) → LexesUnder π s at (End (cursor at))
+pub end-lexed : (π : Profile) (s : List ℕ) (at : ℕ) → at ≤ length s → None ≡ head (drop at s) → LexesUnder π s at (End (cursor at))
 unfolding LexesUnder head
 end-lexed π s at h e =
     split (ltb at (length s))
@@ -49,13 +49,19 @@ under e s at x l = subst (λ (p : Profile). LexesUnder p s at x) (sym e) l
 pub key-seen : (k b : ℕ) (l : List ℕ) → sees (byte b) l ≡ true → b ≡ k → sees (byte k) l ≡ true
 key-seen k b l h e = subst (λ (n : ℕ). sees (byte n) l ≡ true) e h
 
-pub byte-seen : (b : ℕ) (l : List ℕ) → Byte b ≡ head l → sees (byte b) l ≡ true
+pub byte-seen : (b : ℕ) (l : List ℕ) → Some b ≡ head l → sees (byte b) l ≡ true
 byte-seen b l e = sym (head-sees (byte b) b l e) ∙ eq-eqb b b refl
 
 pub byte-in : (t : Set) (b : ℕ) (l : List ℕ) → sees (byte b) l ≡ true → holds t b ≡ true → sees t l ≡ true
 unfolding sees
 byte-in t b [] h e = absurd (true≢false (sym h))
 byte-in t b (x ∷ l) h e = rw (eqb-true x b h) e
+
+-- one of the quotes, as an arm tells them
+pub quote-in : (b : ℕ) → (b ≡ 34) ⊎ ((b ≡ 39) ⊎ (b ≡ 96)) → holds (one_of "'\"`") b ≡ true
+quote-in b (inl e) = rw e
+quote-in b (inr (inl e)) = rw e
+quote-in b (inr (inr e)) = rw e
 
 -- where the first byte leaves the same under both profiles, so does the answer
 pub lift : (t : Set) → inside t alike_first ≡ true → (π : Profile) (s : List ℕ) (at : ℕ) → At t at s → (r : Lexed) → Lexes s at r → LexesUnder π s at r

@@ -1,40 +1,22 @@
 // The cursor: a place in a text, by value. Each method takes the text beside it; what moves hands the moved cursor back, so that going
 // back is to use the old one.
 ghost use Rattle.std.specs.Prelude.{◌≡◌, drop};
-ghost use Rattle.grammar.specs.Form.{D, S, C, blank, byte, no, ◌or◌};
-ghost use Rattle.grammar.specs.Runs.{char, sees, sees_pair, moved, optional, over};
+ghost use Rattle.grammar.specs.Runs.{sees, sees_pair, moved, optional, over};
 ghost use Rattle.grammar.specs.Answers.{is_hex};
-ghost use Rattle.lexer.specs.Eaten.{head, hexdigit, past};
+ghost use Rattle.lexer.specs.Eaten.{head, past};
 
-use words::bytes::{is_blank, is_digit, is_hexdigit, is_identifier_continue, is_identifier_start};
+use crate::sets::{ByteSet, Not, Or};
 
-#[derive(Clone, Copy)]
+#[derive(Clone, Copy, PartialEq, Eq)]
 pub struct Cursor {
     pub at: usize,
 }
 
-#[derive(Clone, Copy)]
-pub enum Peek {
-    Byte(u8),
-    Nothing,
-}
-
-// Found: behind the byte. Missed: at the end.
-#[derive(Clone, Copy)]
-pub(crate) enum Past {
-    Found(Cursor),
-    Missed(Cursor),
-}
-
 impl Cursor {
-    pub fn peek(self, text: &[u8]) -> Peek
+    pub fn peek(self, text: &[u8]) -> Option<u8>
         ensures { result ≡ head (drop self.at text.now) }
     {
-        let at = self.at;
-        if at < text.len() {
-            return Peek::Byte(text[at]);
-        }
-        Peek::Nothing
+        text.get(self.at).copied()
     }
 
     // Over a byte, if there is one.
@@ -43,201 +25,67 @@ impl Cursor {
     {
         let at = self.at;
         if at < text.len() {
-            return Cursor { at: at + 1 };
+            Cursor { at: at + 1 }
+        } else {
+            self
         }
-        self
     }
 
-    pub(crate) fn sees(self, text: &[u8], b: u8) -> bool
-        ensures { result ≡ sees (byte b) (drop self.at text.now) }
+    pub(crate) fn sees<K: ByteSet>(self, text: &[u8], set: K) -> bool
+        ensures { result ≡ sees (K.set set) (drop self.at text.now) }
     {
-        let Peek::Byte(x) = self.peek(text) else {
-            return false;
-        };
-        x == b
-    }
-
-    pub(crate) fn sees_either(self, text: &[u8], a: u8, b: u8) -> bool
-        ensures { result ≡ sees (byte a or byte b) (drop self.at text.now) }
-    {
-        let Peek::Byte(x) = self.peek(text) else {
-            return false;
-        };
-        if x == a {
-            return true;
+        match self.peek(text) {
+            Some(b) => set.has(b),
+            None => false,
         }
-        x == b
-    }
-
-    pub(crate) fn sees_digit(self, text: &[u8]) -> bool
-        ensures { result ≡ sees D (drop self.at text.now) }
-    {
-        let Peek::Byte(x) = self.peek(text) else {
-            return false;
-        };
-        is_digit(x)
-    }
-
-    pub(crate) fn sees_hexdigit(self, text: &[u8]) -> bool
-        ensures { result ≡ sees hexdigit (drop self.at text.now) }
-    {
-        let Peek::Byte(x) = self.peek(text) else {
-            return false;
-        };
-        is_hexdigit(x)
-    }
-
-    pub(crate) fn sees_start(self, text: &[u8]) -> bool
-        ensures { result ≡ sees S (drop self.at text.now) }
-    {
-        let Peek::Byte(x) = self.peek(text) else {
-            return false;
-        };
-        is_identifier_start(x)
-    }
-
-    pub(crate) fn sees_continue(self, text: &[u8]) -> bool
-        ensures { result ≡ sees C (drop self.at text.now) }
-    {
-        let Peek::Byte(x) = self.peek(text) else {
-            return false;
-        };
-        is_identifier_continue(x)
     }
 
     pub(crate) fn sees_pair(self, text: &[u8]) -> bool
         ensures { result ≡ sees_pair (drop self.at text.now) }
     {
-        if self.sees(text, b':') {
-            return self.eat(text).sees(text, b':');
-        }
-        false
+        self.sees(text, b':') && self.eat(text).sees(text, b':')
     }
 
     // `0x` or `0X`.
     pub(crate) fn sees_hex(self, text: &[u8]) -> bool
         ensures { result ≡ is_hex (drop self.at text.now) }
     {
-        if self.sees(text, b'0') {
-            return self.eat(text).sees_either(text, b'x', b'X');
-        }
-        false
+        self.sees(text, b'0') && self.eat(text).sees(text, Or(b'x', b'X'))
     }
 
-    // Over a byte that is one of two.
-    pub(crate) fn eat_either(self, text: &[u8], a: u8, b: u8) -> Cursor
-        ensures { result.at ≡ optional (byte a or byte b) self.at text.now }
+    // Over a byte of the set, if one is there.
+    pub(crate) fn eat_if<K: ByteSet>(self, text: &[u8], set: K) -> Cursor
+        ensures { result.at ≡ optional (K.set set) self.at text.now }
     {
-        if self.sees_either(text, a, b) {
-            return self.eat(text);
+        if self.sees(text, set) {
+            self.eat(text)
+        } else {
+            self
         }
-        self
     }
 
-    // Up to the byte, or to the end.
-    pub(crate) fn eat_until(self, text: &[u8], b: u8) -> Cursor
-        ensures { result.at ≡ over (no (byte b)) self.at text.now }
+    // Over bytes of the set, to the first that is none, or to the end.
+    pub(crate) fn eat_while<K: ByteSet>(self, text: &[u8], set: K) -> Cursor
+        ensures { result.at ≡ over (K.set set) self.at text.now }
     {
-        let mut at = self.at;
-        while at < text.len() {
-            if text[at] == b {
-                return Cursor { at };
-            }
-            at += 1;
+        let Some(rest) = text.get(self.at..) else {
+            return self;
+        };
+        let run = rest.iter().position(|b| !set.has(*b));
+        Cursor {
+            at: self.at + run.unwrap_or(rest.len()),
         }
-        Cursor { at }
     }
 
-    pub(crate) fn eat_past(self, text: &[u8], b: u8) -> Past
+    // Behind the next such byte; or, where there is none, an error: the end.
+    pub(crate) fn eat_past(self, text: &[u8], b: u8) -> Result<Cursor, Cursor>
         ensures { result ≡ past b self.at text.now }
     {
-        let stop = self.eat_until(text, b);
+        let stop = self.eat_while(text, Not(b));
         if stop.sees(text, b) {
-            return Past::Found(stop.eat(text));
+            Ok(stop.eat(text))
+        } else {
+            Err(stop)
         }
-        Past::Missed(stop)
-    }
-
-    pub(crate) fn eat_while_blank(self, text: &[u8]) -> Cursor
-        ensures { result.at ≡ over blank self.at text.now }
-    {
-        let mut at = self.at;
-        while at < text.len() {
-            if !is_blank(text[at]) {
-                return Cursor { at };
-            }
-            at += 1;
-        }
-        Cursor { at }
-    }
-
-    pub(crate) fn eat_while_digit(self, text: &[u8]) -> Cursor
-        ensures { result.at ≡ over D self.at text.now }
-    {
-        let mut at = self.at;
-        while at < text.len() {
-            if !is_digit(text[at]) {
-                return Cursor { at };
-            }
-            at += 1;
-        }
-        Cursor { at }
-    }
-
-    pub(crate) fn eat_while_hexdigit(self, text: &[u8]) -> Cursor
-        ensures { result.at ≡ over hexdigit self.at text.now }
-    {
-        let mut at = self.at;
-        while at < text.len() {
-            if !is_hexdigit(text[at]) {
-                return Cursor { at };
-            }
-            at += 1;
-        }
-        Cursor { at }
-    }
-
-    pub(crate) fn eat_while_continue(self, text: &[u8]) -> Cursor
-        ensures { result.at ≡ over C self.at text.now }
-    {
-        let mut at = self.at;
-        while at < text.len() {
-            if !is_identifier_continue(text[at]) {
-                return Cursor { at };
-            }
-            at += 1;
-        }
-        Cursor { at }
-    }
-
-    pub(crate) fn eat_while_not_blank(self, text: &[u8]) -> Cursor
-        ensures { result.at ≡ over (no blank) self.at text.now }
-    {
-        let mut at = self.at;
-        while at < text.len() {
-            if is_blank(text[at]) {
-                return Cursor { at };
-            }
-            at += 1;
-        }
-        Cursor { at }
-    }
-
-    // The bytes that `(` may hold behind a parameter's name.
-    pub(crate) fn eat_while_suffix(self, text: &[u8]) -> Cursor
-        ensures { result.at ≡ over (no (char ")" or blank)) self.at text.now }
-    {
-        let mut at = self.at;
-        while at < text.len() {
-            let b = text[at];
-            if b == b')' {
-                return Cursor { at };
-            }
-            if is_blank(b) {
-                return Cursor { at };
-            }
-            at += 1;
-        }
-        Cursor { at }
     }
 }

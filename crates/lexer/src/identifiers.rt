@@ -9,6 +9,7 @@ ghost use Rattle.lexer.specs.Values.{Lexes};
 use crate::cursor::Cursor;
 use crate::lexed::{Lexed, Refusal, refused, token};
 use crate::quoted::eat_blob;
+use crate::sets::{Blank, Continue, Not, Or};
 use keywords::kinds::TK_ILLEGAL;
 use words::lookup::keyword_or_id_token;
 
@@ -17,13 +18,11 @@ pub(crate) fn eat_blob_or_id(text: &[u8], start: Cursor) -> Lexed
     ensures { Lexes text.now start.at result }
 {
     let rest = start.eat(text);
-    if !start.sees_either(text, b'x', b'X') {
-        return eat_id(text, start, rest);
+    if start.sees(text, Or(b'x', b'X')) && rest.sees(text, b'\'') {
+        eat_blob(text, start, rest.eat(text))
+    } else {
+        eat_id(text, start, rest)
     }
-    if !rest.sees(text, b'\'') {
-        return eat_id(text, start, rest);
-    }
-    eat_blob(text, start, rest.eat(text))
 }
 
 // Behind the first byte of a word.
@@ -31,17 +30,15 @@ fn eat_id(text: &[u8], start: Cursor, at: Cursor) -> Lexed
     requires { Reads text.now start.at at.at (behind "a") }
     ensures { Lexes text.now start.at result }
 {
-    let end = at.eat_while_continue(text);
-    let a = start.at;
-    let e = end.at;
-    token(keyword_or_id_token(&text[a..e]), start, end)
+    let end = at.eat_while(text, Continue);
+    token(keyword_or_id_token(&text[start.at..end.at]), start, end)
 }
 
 pub(crate) fn eat_illegal(text: &[u8], start: Cursor) -> Lexed
     requires { At (char "#") start.at text.now }
     ensures { Lexes text.now start.at result }
 {
-    token(TK_ILLEGAL, start, start.eat(text).eat_while_continue(text))
+    token(TK_ILLEGAL, start, start.eat(text).eat_while(text, Continue))
 }
 
 // The only refusal that leaves the cursor behind the lexeme.
@@ -49,6 +46,6 @@ pub(crate) fn eat_unrecognized(text: &[u8], start: Cursor) -> Lexed
     requires { At U start.at text.now }
     ensures { Lexes text.now start.at result }
 {
-    let end = start.eat_while_not_blank(text);
+    let end = start.eat_while(text, Not(Blank));
     refused(Refusal::UnrecognizedToken, start, end, end)
 }

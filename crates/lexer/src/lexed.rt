@@ -1,6 +1,8 @@
 // What `next` answers.
 ghost use Rattle.std.specs.Prelude.{◌≡◌, ◌-◌, ◌≤◌};
 ghost use Rattle.grammar.specs.Answers.{sum};
+ghost use Rattle.grammar.specs.Texts.{offset};
+ghost use Rattle.lexer.specs.Values.{values_of};
 
 use crate::cursor::Cursor;
 use crate::digits::Tally;
@@ -9,7 +11,7 @@ use crate::digits::Tally;
 pub const MOST: usize = 4294967295;
 
 // The errors that the Rust's lexer gives, in the order of document 01's numbers, and the one that it adds.
-#[derive(Clone, Copy)]
+#[derive(Clone, Copy, PartialEq, Eq)]
 pub enum Refusal {
     UnrecognizedToken,
     UnterminatedLiteral,
@@ -45,6 +47,17 @@ pub enum Lexed {
     },
 }
 
+impl Lexed {
+    // Where lexing goes on.
+    pub fn next(self) -> Cursor
+        ensures { result.at ≡ offset (values_of self) }
+    {
+        match self {
+            Lexed::Token { next, .. } | Lexed::End { next } | Lexed::Refused { next, .. } => next,
+        }
+    }
+}
+
 pub(crate) fn token(kind: u32, from: Cursor, to: Cursor) -> Lexed
     requires { from.at ≤ to.at }
     ensures { result ≡ Lexed.Token kind from.at (to.at - from.at) to 0 0 }
@@ -78,10 +91,7 @@ pub(crate) fn number(kind: u32, from: Cursor, to: Tally) -> Lexed
 fn sum(n: usize) -> u32
     ensures { result ≡ sum n }
 {
-    if n < MOST {
-        return n as u32;
-    }
-    MOST as u32
+    n.min(MOST) as u32
 }
 
 // The span is from one cursor to another; lexing goes on at a third.

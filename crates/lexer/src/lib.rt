@@ -1,4 +1,4 @@
-// The lexer: `next` gives the longest lexeme at a cursor. Read `cursor` (places in a text) and `lexed` (answers), then in the Rust's order
+// The lexer: `next` gives the longest lexeme at a cursor. Read `sets` (of bytes), `cursor` (places in a text) and `lexed` (answers), then in the Rust's order
 // `digits`, `operators`, `quoted`, `numbers`, `parameters` and `identifiers`; `next` chooses among them by the first byte.
 #![tactic(auto)]
 
@@ -11,3 +11,4 @@ mod numbers;
 mod operators;
 mod parameters;
 mod quoted;
+mod sets;

@@ -7,7 +7,7 @@ ghost use Rattle.grammar.specs.Runs.{char};
 ghost use Rattle.grammar.proofs.Places.{At};
 ghost use Rattle.lexer.specs.Values.{LexesUnder};
 
-use crate::cursor::{Cursor, Peek};
+use crate::cursor::Cursor;
 use crate::identifiers::{eat_blob_or_id, eat_illegal, eat_unrecognized};
 use crate::lexed::{Lexed, Refusal};
 use crate::numbers::{eat_dot_or_frac, eat_number};
@@ -18,6 +18,7 @@ use crate::operators::{
 };
 use crate::parameters::{eat_colon_or_var, eat_named_var, eat_numbered_var};
 use crate::quoted::{eat_bracketed, eat_lit_or_id};
+use crate::sets::{Digit, Start};
 use grammar::profile::Profile;
 use keywords::kinds::{
     TK_BITAND, TK_BITNOT, TK_COMMA, TK_LBRACKET, TK_LP, TK_PLUS, TK_RBRACKET, TK_REM, TK_RP,
@@ -38,7 +39,7 @@ pub fn next(text: &[u8], cursor: Cursor, profile: Profile) -> Lexed
             next: cursor,
         };
     }
-    let Peek::Byte(b) = cursor.peek(text) else {
+    let Some(b) = cursor.peek(text) else {
         return Lexed::End { next: cursor };
     };
     if is_blank(b) {
@@ -69,9 +70,7 @@ fn eat_lexeme(text: &[u8], start: Cursor, b: u8, profile: Profile) -> Lexed
         b',' => eat_one_token(text, start, TK_COMMA),
         b'&' => eat_and(text, start, profile),
         b'~' => eat_one_token(text, start, TK_BITNOT),
-        b'\'' => eat_lit_or_id(text, start, b),
-        b'"' => eat_lit_or_id(text, start, b),
-        b'`' => eat_lit_or_id(text, start, b),
+        b'\'' | b'"' | b'`' => eat_lit_or_id(text, start, b),
         b'.' => eat_dot_or_frac(text, start, profile),
         b'[' => eat_bracket(text, start, profile),
         b']' => eat_one_token(text, start, TK_RBRACKET),
@@ -88,10 +87,10 @@ fn eat_number_or_name(text: &[u8], start: Cursor, profile: Profile) -> Lexed
     requires { At (D or S or U) start.at text.now }
     ensures { LexesUnder profile text.now start.at result }
 {
-    if start.sees_digit(text) {
+    if start.sees(text, Digit) {
         return eat_number(text, start, profile);
     }
-    if start.sees_start(text) {
+    if start.sees(text, Start) {
         return eat_blob_or_id(text, start);
     }
     eat_unrecognized(text, start)

@@ -7,8 +7,9 @@ ghost use Rattle.grammar.proofs.Places.{At, Counted, Decimal, Dot, Fraction, Exp
 ghost use Rattle.lexer.specs.Values.{Lexes, LexesUnder};
 
 use crate::cursor::Cursor;
-use crate::digits::{Digits, Tally};
+use crate::digits::Tally;
 use crate::lexed::{Lexed, Refusal, number, refused, token};
+use crate::sets::{Digit, Or, Start};
 use grammar::profile::Profile;
 use keywords::kinds::{TK_DOT, TK_FLOAT, TK_INTEGER};
 
@@ -18,15 +19,11 @@ pub(crate) fn eat_dot_or_frac(text: &[u8], start: Cursor, profile: Profile) -> L
     ensures { LexesUnder profile text.now start.at result }
 {
     let rest = start.eat(text);
-    if rest.sees_digit(text) {
-        let at = Tally {
-            cursor: rest,
-            digits: 0,
-            underscores: 0,
-        };
-        return eat_frac(text, start, at, start, profile);
+    if rest.sees(text, Digit) {
+        eat_frac(text, start, Tally::begin(rest), start, profile)
+    } else {
+        token(TK_DOT, start, rest)
     }
-    token(TK_DOT, start, rest)
 }
 
 // A dot behind a number's digits: here `e` may follow at once, as in `5.e_1`.
@@ -39,13 +36,12 @@ fn eat_dot_after_digits(text: &[u8], start: Cursor, digits: Tally, profile: Prof
     let rest = dot.eat(text);
     let at = Tally {
         cursor: rest,
-        digits: digits.digits,
-        underscores: digits.underscores,
+        ..digits
     };
-    if rest.sees_digit(text) {
+    if rest.sees(text, Digit) {
         return eat_frac(text, start, at, dot, profile);
     }
-    if rest.sees_either(text, b'e', b'E') {
+    if rest.sees(text, Or(b'e', b'E')) {
         return eat_expo(text, start, at, profile);
     }
     number(TK_FLOAT, start, at)
@@ -57,19 +53,18 @@ fn eat_frac(text: &[u8], start: Cursor, at: Tally, dot: Cursor, profile: Profile
     requires counted { Counted D text.now start.at at.cursor.at at.digits at.underscores }
     ensures { LexesUnder profile text.now start.at result }
 {
-    match at.eat_while_number_digit(text) {
-        Digits::Bad(from, to) => refused(Refusal::BadNumber, from, to, start),
-        Digits::Read(digits) => {
-            let end = digits.cursor;
-            if !end.sees_either(text, b'e', b'E') {
-                if end.sees_start(text) {
-                    return refused(Refusal::BadFractionalPart, dot, end, start);
-                }
-                return number(TK_FLOAT, start, digits);
-            }
-            eat_expo(text, start, digits, profile)
-        }
+    let digits = match at.eat_while_number_digit(text) {
+        Ok(digits) => digits,
+        Err(bad) => return refused(Refusal::BadNumber, bad.from, bad.to, start),
+    };
+    let end = digits.cursor;
+    if end.sees(text, Or(b'e', b'E')) {
+        return eat_expo(text, start, digits, profile);
     }
+    if end.sees(text, Start) {
+        return refused(Refusal::BadFractionalPart, dot, end, start);
+    }
+    number(TK_FLOAT, start, digits)
 }
 
 // A digit, or an underscore where the profile lets one stand there.
@@ -77,13 +72,8 @@ fn begins_exponent(text: &[u8], at: Cursor, profile: Profile) -> bool
     ensures { result ≡ sees (exponent_start profile) (drop at.at text.now) }
 {
     match profile {
-        Profile::Turso => {
-            if at.sees_digit(text) {
-                return true;
-            }
-            at.sees(text, b'_')
-        }
-        Profile::Sqlite => at.sees_digit(text),
+        Profile::Turso => at.sees(text, Or(Digit, b'_')),
+        Profile::Sqlite => at.sees(text, Digit),
     }
 }
 
@@ -94,25 +84,23 @@ fn eat_expo(text: &[u8], start: Cursor, digits: Tally, profile: Profile) -> Lexe
     ensures { LexesUnder profile text.now start.at result }
 {
     let e = digits.cursor;
-    let first = e.eat(text).eat_either(text, b'+', b'-');
+    let first = e.eat(text).eat_if(text, Or(b'+', b'-'));
     let at = Tally {
         cursor: first,
-        digits: digits.digits,
-        underscores: digits.underscores,
+        ..digits
     };
     if !begins_exponent(text, first, profile) {
         return refused(Refusal::BadExponentPart, e, first, start);
     }
-    match at.eat_while_number_digit(text) {
-        Digits::Bad(from, to) => refused(Refusal::BadNumber, from, to, start),
-        Digits::Read(all) => {
-            let end = all.cursor;
-            if end.sees_start(text) {
-                return refused(Refusal::BadExponentPart, e, end, start);
-            }
-            number(TK_FLOAT, start, all)
-        }
+    let all = match at.eat_while_number_digit(text) {
+        Ok(all) => all,
+        Err(bad) => return refused(Refusal::BadNumber, bad.from, bad.to, start),
+    };
+    let end = all.cursor;
+    if end.sees(text, Start) {
+        return refused(Refusal::BadExponentPart, e, end, start);
     }
+    number(TK_FLOAT, start, all)
 }
 
 pub(crate) fn eat_number(text: &[u8], start: Cursor, profile: Profile) -> Lexed
@@ -131,24 +119,18 @@ fn eat_hex(text: &[u8], start: Cursor, at: Cursor) -> Lexed
     requires { Hex text.now start.at at.at }
     ensures { Lexes text.now start.at result }
 {
-    let none = Tally {
-        cursor: at,
-        digits: 0,
-        underscores: 0,
+    let digits = match Tally::begin(at).eat_while_number_hexdigit(text) {
+        Ok(digits) => digits,
+        Err(bad) => return refused(Refusal::BadNumber, bad.from, bad.to, start),
     };
-    match none.eat_while_number_hexdigit(text) {
-        Digits::Bad(from, to) => refused(Refusal::BadNumber, from, to, start),
-        Digits::Read(digits) => {
-            let end = digits.cursor;
-            if at.at == end.at {
-                return refused(Refusal::MalformedHexInteger, start, end, start);
-            }
-            if end.sees_start(text) {
-                return refused(Refusal::BadNumber, start, end, start);
-            }
-            number(TK_INTEGER, start, digits)
-        }
+    let end = digits.cursor;
+    if at.at == end.at {
+        return refused(Refusal::MalformedHexInteger, start, end, start);
     }
+    if end.sees(text, Start) {
+        return refused(Refusal::BadNumber, start, end, start);
+    }
+    number(TK_INTEGER, start, digits)
 }
 
 // Behind the first digit of a number that is not hexadecimal.
@@ -161,20 +143,19 @@ fn eat_decimal(text: &[u8], start: Cursor, at: Cursor, profile: Profile) -> Lexe
         digits: 1,
         underscores: 0,
     };
-    match first.eat_while_number_digit(text) {
-        Digits::Bad(from, to) => refused(Refusal::BadNumber, from, to, start),
-        Digits::Read(digits) => {
-            let end = digits.cursor;
-            if end.sees(text, b'.') {
-                return eat_dot_after_digits(text, start, digits, profile);
-            }
-            if end.sees_either(text, b'e', b'E') {
-                return eat_expo(text, start, digits, profile);
-            }
-            if end.sees_start(text) {
-                return refused(Refusal::BadNumber, start, end, start);
-            }
-            number(TK_INTEGER, start, digits)
-        }
+    let digits = match first.eat_while_number_digit(text) {
+        Ok(digits) => digits,
+        Err(bad) => return refused(Refusal::BadNumber, bad.from, bad.to, start),
+    };
+    let end = digits.cursor;
+    if end.sees(text, b'.') {
+        return eat_dot_after_digits(text, start, digits, profile);
     }
+    if end.sees(text, Or(b'e', b'E')) {
+        return eat_expo(text, start, digits, profile);
+    }
+    if end.sees(text, Start) {
+        return refused(Refusal::BadNumber, start, end, start);
+    }
+    number(TK_INTEGER, start, digits)
 }

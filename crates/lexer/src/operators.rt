@@ -7,9 +7,10 @@ ghost use Rattle.lexer.specs.Eaten.{cursor};
 ghost use Rattle.grammar.proofs.Places.{At};
 ghost use Rattle.lexer.specs.Values.{Lexes};
 
-use crate::cursor::{Cursor, Past};
+use crate::cursor::Cursor;
 use crate::lexed::{Lexed, Refusal, refused, token};
 use crate::parameters::eat_named_var;
+use crate::sets::{Blank, Not};
 use keywords::kinds::{
     TK_ARRAY_CONTAINS, TK_ARRAY_OVERLAP, TK_BITAND, TK_BITOR, TK_CONCAT, TK_EQ, TK_GE, TK_GT,
     TK_LE, TK_LSHIFT, TK_LT, TK_MINUS, TK_NE, TK_NONE, TK_PTR, TK_RSHIFT, TK_SLASH,
@@ -26,7 +27,7 @@ pub(crate) fn eat_white_space(text: &[u8], start: Cursor) -> Lexed
     requires { At blank start.at text.now }
     ensures { Lexes text.now start.at result }
 {
-    token(TK_NONE, start, start.eat(text).eat_while_blank(text))
+    token(TK_NONE, start, start.eat(text).eat_while(text, Blank))
 }
 
 pub(crate) fn eat_minus_or_comment_or_ptr(text: &[u8], start: Cursor) -> Lexed
@@ -38,7 +39,7 @@ pub(crate) fn eat_minus_or_comment_or_ptr(text: &[u8], start: Cursor) -> Lexed
         return token(
             TK_NONE,
             start,
-            minus.eat(text).eat_until(text, b'\n').eat(text),
+            minus.eat(text).eat_while(text, Not(b'\n')).eat(text),
         );
     }
     if minus.sees(text, b'>') {
@@ -70,8 +71,8 @@ pub(crate) fn eat_comment(text: &[u8], start: Cursor, at: Cursor) -> Lexed
     let mut body = at;
     loop {
         match body.eat_past(text, b'*') {
-            Past::Missed(end) => return token(TK_NONE, start, end),
-            Past::Found(star) => {
+            Err(end) => return token(TK_NONE, start, end),
+            Ok(star) => {
                 if star.sees(text, b'/') {
                     return token(TK_NONE, start, star.eat(text));
                 }

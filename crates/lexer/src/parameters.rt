@@ -8,6 +8,7 @@ ghost use Rattle.lexer.specs.Values.{Lexes, LexesUnder};
 
 use crate::cursor::Cursor;
 use crate::lexed::{Lexed, Refusal, refused, token};
+use crate::sets::{Blank, Continue, Digit, Not, Or, Start};
 use keywords::kinds::{TK_COLON, TK_VARIABLE};
 
 // `?` and digits.
@@ -15,7 +16,7 @@ pub(crate) fn eat_numbered_var(text: &[u8], start: Cursor) -> Lexed
     requires { At (char "?") start.at text.now }
     ensures { Lexes text.now start.at result }
 {
-    token(TK_VARIABLE, start, start.eat(text).eat_while_digit(text))
+    token(TK_VARIABLE, start, start.eat(text).eat_while(text, Digit))
 }
 
 // The name of a parameter, behind its `$`, `@` or `:`: identifier bytes, and `::` pairs anywhere. Here no identifier byte has come yet;
@@ -27,7 +28,7 @@ pub(crate) fn eat_named_var(text: &[u8], start: Cursor, at: Cursor) -> Lexed
 {
     let mut name = at;
     loop {
-        if name.sees_continue(text) {
+        if name.sees(text, Continue) {
             return eat_name(text, start, name);
         }
         if !name.sees_pair(text) {
@@ -44,7 +45,7 @@ fn eat_name(text: &[u8], start: Cursor, at: Cursor) -> Lexed
 {
     let mut name = at;
     loop {
-        let end = name.eat_while_continue(text);
+        let end = name.eat_while(text, Continue);
         if !end.sees_pair(text) {
             return eat_suffix(text, start, end);
         }
@@ -60,7 +61,7 @@ fn eat_suffix(text: &[u8], start: Cursor, at: Cursor) -> Lexed
     if !at.sees(text, b'(') {
         return token(TK_VARIABLE, start, at);
     }
-    let end = at.eat(text).eat_while_suffix(text);
+    let end = at.eat(text).eat_while(text, Not(Or(b')', Blank)));
     if !end.sees(text, b')') {
         return refused(Refusal::UnrecognizedToken, start, end, start);
     }
@@ -73,11 +74,9 @@ pub(crate) fn eat_colon_or_var(text: &[u8], start: Cursor) -> Lexed
     ensures { Lexes text.now start.at result }
 {
     let colon = start.eat(text);
-    if colon.sees_start(text) {
-        return eat_named_var(text, start, colon);
+    if colon.sees(text, Start) || colon.sees_pair(text) {
+        eat_named_var(text, start, colon)
+    } else {
+        token(TK_COLON, start, colon)
     }
-    if colon.sees_pair(text) {
-        return eat_named_var(text, start, colon);
-    }
-    token(TK_COLON, start, colon)
 }

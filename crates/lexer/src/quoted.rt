@@ -8,17 +8,15 @@ ghost use Rattle.grammar.proofs.Places.{At};
 ghost use Rattle.lexer.specs.Eaten.{quote_kind};
 ghost use Rattle.lexer.specs.Values.{Lexes, LexesUnder};
 
-use crate::cursor::{Cursor, Past};
+use crate::cursor::Cursor;
 use crate::lexed::{Lexed, Refusal, refused, token};
+use crate::sets::Hexdigit;
 use keywords::kinds::{TK_BLOB, TK_ID, TK_STRING};
 
 fn quote_kind(quote: u8) -> u32
     ensures { result ≡ quote_kind quote }
 {
-    if quote == b'\'' {
-        return TK_STRING;
-    }
-    TK_ID
+    if quote == b'\'' { TK_STRING } else { TK_ID }
 }
 
 pub(crate) fn eat_lit_or_id(text: &[u8], start: Cursor, quote: u8) -> Lexed
@@ -28,10 +26,8 @@ pub(crate) fn eat_lit_or_id(text: &[u8], start: Cursor, quote: u8) -> Lexed
     let mut body = start.eat(text);
     loop {
         match body.eat_past(text, quote) {
-            Past::Missed(end) => {
-                return refused(Refusal::UnterminatedLiteral, start, end, start);
-            }
-            Past::Found(after) => {
+            Err(end) => return refused(Refusal::UnterminatedLiteral, start, end, start),
+            Ok(after) => {
                 if !after.sees(text, quote) {
                     return token(quote_kind(quote), start, after);
                 }
@@ -47,8 +43,8 @@ pub(crate) fn eat_bracketed(text: &[u8], start: Cursor) -> Lexed
     ensures { LexesUnder Sqlite text.now start.at result }
 {
     match start.eat(text).eat_past(text, b']') {
-        Past::Missed(end) => refused(Refusal::UnterminatedLiteral, start, end, start),
-        Past::Found(after) => token(TK_ID, start, after),
+        Err(end) => refused(Refusal::UnterminatedLiteral, start, end, start),
+        Ok(after) => token(TK_ID, start, after),
     }
 }
 
@@ -57,7 +53,7 @@ pub(crate) fn eat_blob(text: &[u8], start: Cursor, at: Cursor) -> Lexed
     requires { Reads text.now start.at at.at (behind "x'") }
     ensures { Lexes text.now start.at result }
 {
-    let end = at.eat_while_hexdigit(text);
+    let end = at.eat_while(text, Hexdigit);
     if !end.sees(text, b'\'') {
         return refused(Refusal::UnterminatedLiteral, start, end, start);
     }

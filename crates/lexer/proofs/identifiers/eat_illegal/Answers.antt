@@ -5,8 +5,8 @@ use Rattle.lexer.proofs.IdentifierLaws.{illegal-lexed}
 use Rattle.lexer.proofs.identifiers.eat_illegal.Goals as goal
 
 pub token-requires : goal.token-requires
-token-requires c = moved-over _ _ _ _ _ c.eat.ensures c.eat_while_continue.ensures
+token-requires c = moved-over _ _ _ _ _ c.eat.ensures c.eat_while.ensures
 
 pub returns : goal.returns
 returns c =
-    illegal-lexed (spelled-first 35 _ _ c.requires c.eat.ensures) c.eat_while_continue.ensures _ c.token.ensures
+    illegal-lexed (spelled-first 35 _ _ c.requires c.eat.ensures) c.eat_while.ensures _ c.token.ensures

@@ -2,10 +2,10 @@
 use mathlib.Core.Path.{refl}
 use Rattle.words.specs.Bytes.{is_digit}
 use Rattle.grammar.specs.Classes.{U, operators}
-use Rattle.grammar.specs.Form.{D, S, ◌or◌}
+use Rattle.grammar.specs.Form.{D, S, one_of, ◌or◌}
 use Rattle.grammar.proofs.Reading.{spelled-first}
 use Rattle.grammar.proofs.Seen.{moved_up, seen-in}
-use Rattle.lexer.proofs.NextLaws.{byte-in, key-lexed, key-lift, key-seen, later}
+use Rattle.lexer.proofs.NextLaws.{byte-in, key-lexed, key-lift, key-seen, later, lift, quote-in}
 use Rattle.lexer.proofs.OperatorLaws.{follow, is_operator}
 use Rattle.lexer.proofs.ParameterLaws.{dollar-reads}
 use borrow.Author.Rules.{rules}
@@ -60,13 +60,7 @@ pub eat_one_token-requires-in-126 : goal.eat_one_token-requires-in-126
 eat_one_token-requires-in-126 c = seen-in _ _ _ c.requires.0
 
 pub eat_lit_or_id-requires : goal.eat_lit_or_id-requires
-eat_lit_or_id-requires c = (c.requires.0, rw c.in-39.is)
-
-pub eat_lit_or_id-requires-in-34 : goal.eat_lit_or_id-requires-in-34
-eat_lit_or_id-requires-in-34 c = (c.requires.0, rw c.in-34.is)
-
-pub eat_lit_or_id-requires-in-96 : goal.eat_lit_or_id-requires-in-96
-eat_lit_or_id-requires-in-96 c = (c.requires.0, rw c.in-96.is)
+eat_lit_or_id-requires c = (c.requires.0, quote-in _ c.in-39.is)
 
 pub eat_dot_or_frac-requires : goal.eat_dot_or_frac-requires
 eat_dot_or_frac-requires c = key-seen 46 _ _ c.requires.0 c.in-46.is
@@ -157,15 +151,9 @@ returns-in-126 c = key-lexed 126 _ _ _ _ c.requires.0 c.in-126.is refl refl refl
 
 pub returns-in-39 : goal.returns-in-39
 unfolding is_digit
-returns-in-39 c = key-lift 39 _ _ _ _ c.requires.0 c.in-39.is refl _ c.eat_lit_or_id.ensures
-
-pub returns-in-34 : goal.returns-in-34
-unfolding is_digit
-returns-in-34 c = key-lift 34 _ _ _ _ c.requires.0 c.in-34.is refl _ c.eat_lit_or_id-in-34.ensures
-
-pub returns-in-96 : goal.returns-in-96
-unfolding is_digit
-returns-in-96 c = key-lift 96 _ _ _ _ c.requires.0 c.in-96.is refl _ c.eat_lit_or_id-in-96.ensures
+returns-in-39 c =
+    let quotes = one_of "'\"`" in
+    lift quotes refl _ _ _ (byte-in quotes _ _ c.requires.0 (quote-in _ c.in-39.is)) _ c.eat_lit_or_id.ensures
 
 pub returns-in-93 : goal.returns-in-93
 unfolding follow is_operator operators is_digit

@@ -8,22 +8,22 @@ use Rattle.lexer.proofs.NextLaws.{lift}
 use Rattle.lexer.proofs.next.eat_number_or_name.Goals as goal
 
 pub eat_number-requires : goal.eat_number-requires
-eat_number-requires c = sym c.sees_digit.ensures ∙ c.if-sees_digit.true
+eat_number-requires c = sym c.sees.ensures ∙ c.if-sees.true
 
 pub eat_blob_or_id-requires : goal.eat_blob_or_id-requires
-eat_blob_or_id-requires c = sym c.sees_start.ensures ∙ c.if-sees_start.true
+eat_blob_or_id-requires c = sym c.sees-2.ensures ∙ c.if-sees-2.true
 
-pub returns-then-sees_start : goal.returns-then-sees_start
+pub returns-then-sees-2 : goal.returns-then-sees-2
 unfolding is_digit is_identifier_start
-returns-then-sees_start c = lift S refl _ _ _ (sym c.sees_start.ensures ∙ c.if-sees_start.true) _ c.eat_blob_or_id.ensures
+returns-then-sees-2 c = lift S refl _ _ _ (sym c.sees-2.ensures ∙ c.if-sees-2.true) _ c.eat_blob_or_id.ensures
 
 pub eat_unrecognized-requires : goal.eat_unrecognized-requires
 eat_unrecognized-requires c =
-    let other = or-other D (S or U) _ c.requires (sym c.sees_digit.ensures ∙ c.if-sees_digit.false) in
-    or-other S U _ other (sym c.sees_start.ensures ∙ c.if-sees_start.false)
+    let other = or-other D (S or U) _ c.requires (sym c.sees.ensures ∙ c.if-sees.false) in
+    or-other S U _ other (sym c.sees-2.ensures ∙ c.if-sees-2.false)
 
 pub returns : goal.returns
 unfolding is_digit is_blank
 returns c =
-    let other = or-other D (S or U) _ c.requires (sym c.sees_digit.ensures ∙ c.if-sees_digit.false) in
-    lift U refl _ _ _ (or-other S U _ other (sym c.sees_start.ensures ∙ c.if-sees_start.false)) _ c.eat_unrecognized.ensures
+    let other = or-other D (S or U) _ c.requires (sym c.sees.ensures ∙ c.if-sees.false) in
+    lift U refl _ _ _ (or-other S U _ other (sym c.sees-2.ensures ∙ c.if-sees-2.false)) _ c.eat_unrecognized.ensures

@@ -13,13 +13,13 @@ pub returns-in_default : goal.returns-in_default
 returns-in_default c = end-lexed _ _ _ c.if-text-at.false c.in_default.ensures
 
 pub eat_white_space-requires : goal.eat_white_space-requires
-eat_white_space-requires c = sym (head-sees blank _ _ c.in-Byte.ensures) ∙ sym c.is_blank.ensures ∙ c.if-is_blank.true
+eat_white_space-requires c = sym (head-sees blank _ _ c.in-Some.ensures) ∙ sym c.is_blank.ensures ∙ c.if-is_blank.true
 
 pub returns-then-is_blank : goal.returns-then-is_blank
 unfolding is_blank is_digit
 returns-then-is_blank c =
-    let seen = sym (head-sees blank _ _ c.in-Byte.ensures) ∙ sym c.is_blank.ensures ∙ c.if-is_blank.true in
+    let seen = sym (head-sees blank _ _ c.in-Some.ensures) ∙ sym c.is_blank.ensures ∙ c.if-is_blank.true in
     lift blank refl _ _ _ seen _ c.eat_white_space.ensures
 
 pub eat_lexeme-requires : goal.eat_lexeme-requires
-eat_lexeme-requires c = (byte-seen _ _ c.in-Byte.ensures, sym c.is_blank.ensures ∙ c.if-is_blank.false)
+eat_lexeme-requires c = (byte-seen _ _ c.in-Some.ensures, sym c.is_blank.ensures ∙ c.if-is_blank.false)

@@ -6,27 +6,27 @@ use Rattle.lexer.proofs.numbers.eat_dot_after_digits.Goals as goal
 
 pub eat_frac-requires : goal.eat_frac-requires
 eat_frac-requires c = record {
-  fraction = dot-fraction c.requires.dot c.eat-rest.ensures (sym c.sees_digit.ensures ∙ c.if-sees_digit.true);
+  fraction = dot-fraction c.requires.dot c.eat-rest.ensures (sym c.sees.ensures ∙ c.if-sees.true);
   counted = dot-counted c.requires.dot c.eat-rest.ensures c.requires.counted;
 }
 
-pub returns-then-sees_digit : goal.returns-then-sees_digit
-returns-then-sees_digit c = c.eat_frac.ensures
+pub returns-then-sees : goal.returns-then-sees
+returns-then-sees c = c.eat_frac.ensures
 
 pub eat_expo-requires : goal.eat_expo-requires
 eat_expo-requires c = record {
-  exponent = dot-e c.requires.dot c.eat-rest.ensures (sym c.sees_either.ensures ∙ c.if-sees_either.true);
+  exponent = dot-e c.requires.dot c.eat-rest.ensures (sym c.sees-2.ensures ∙ c.if-sees-2.true);
   counted = dot-counted c.requires.dot c.eat-rest.ensures c.requires.counted;
 }
 
-pub returns-then-sees_either : goal.returns-then-sees_either
-returns-then-sees_either c = c.eat_expo.ensures
+pub returns-then-sees-2 : goal.returns-then-sees-2
+returns-then-sees-2 c = c.eat_expo.ensures
 
 pub number-requires : goal.number-requires
 number-requires c =
-    (dot-ends c.requires.dot c.eat-rest.ensures (sym c.sees_digit.ensures ∙ c.if-sees_digit.false) (sym c.sees_either.ensures ∙ c.if-sees_either.false)).ordered
+    (dot-ends c.requires.dot c.eat-rest.ensures (sym c.sees.ensures ∙ c.if-sees.false) (sym c.sees-2.ensures ∙ c.if-sees-2.false)).ordered
 
 pub returns : goal.returns
 returns c =
-    let ends = dot-ends c.requires.dot c.eat-rest.ensures (sym c.sees_digit.ensures ∙ c.if-sees_digit.false) (sym c.sees_either.ensures ∙ c.if-sees_either.false) in
+    let ends = dot-ends c.requires.dot c.eat-rest.ensures (sym c.sees.ensures ∙ c.if-sees.false) (sym c.sees-2.ensures ∙ c.if-sees-2.false) in
     float-lexed _ ends (dot-counted c.requires.dot c.eat-rest.ensures c.requires.counted) c.number.ensures

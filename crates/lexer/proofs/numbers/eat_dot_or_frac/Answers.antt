@@ -6,15 +6,17 @@ use Rattle.lexer.proofs.FractionLaws.{dot-lexed, first_counted, first-fraction}
 use Rattle.lexer.proofs.numbers.eat_dot_or_frac.Goals as goal
 
 pub eat_frac-requires : goal.eat_frac-requires
-eat_frac-requires c =
-    record { fraction = first-fraction _ _ _ _ c.requires c.eat-rest.ensures (sym c.sees_digit.ensures ∙ c.if-sees_digit.true); counted = first_counted _ _ _ c.requires c.eat-rest.ensures }
+eat_frac-requires c = record {
+  fraction = rw c.begin.ensures (first-fraction _ _ _ _ c.requires c.eat-rest.ensures (sym c.sees.ensures ∙ c.if-sees.true));
+  counted = rw c.begin.ensures (first_counted _ _ _ c.requires c.eat-rest.ensures);
+}
 
-pub returns-then-sees_digit : goal.returns-then-sees_digit
-returns-then-sees_digit c = c.eat_frac.ensures
+pub returns-then-sees : goal.returns-then-sees
+returns-then-sees c = c.eat_frac.ensures
 
 pub token-requires : goal.token-requires
 token-requires c = moved_up _ _ _ c.eat-rest.ensures
 
-pub returns : goal.returns
-returns c =
-    dot-lexed _ (spelled-first 46 _ _ c.requires c.eat-rest.ensures) (sym c.sees_digit.ensures ∙ c.if-sees_digit.false) _ c.token.ensures
+pub returns-else-sees : goal.returns-else-sees
+returns-else-sees c =
+    dot-lexed _ (spelled-first 46 _ _ c.requires c.eat-rest.ensures) (sym c.sees.ensures ∙ c.if-sees.false) _ c.token.ensures

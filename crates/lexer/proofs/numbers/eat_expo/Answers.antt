@@ -8,51 +8,51 @@ use Rattle.lexer.proofs.ExponentLaws.{exponent-after, exponent-counted, exponent
 use Rattle.lexer.proofs.numbers.eat_expo.Goals as goal
 
 pub refused-requires : goal.refused-requires
-refused-requires c = sign-up c.requires.exponent c.eat.ensures c.eat_either-first.ensures
+refused-requires c = sign-up c.requires.exponent c.eat.ensures c.eat_if-first.ensures
 
 pub returns-then-not-begins_exponent : goal.returns-then-not-begins_exponent
 returns-then-not-begins_exponent c =
     let none = sym c.begins_exponent.ensures ∙ c.if-not-begins_exponent.true in
-    exponent-missing-lexed c.requires.exponent c.eat.ensures c.eat_either-first.ensures none _ c.refused.ensures
+    exponent-missing-lexed c.requires.exponent c.eat.ensures c.eat_if-first.ensures none _ c.refused.ensures
 
 pub eat_while_number_digit-requires : goal.eat_while_number_digit-requires
 eat_while_number_digit-requires c =
-    counted-few decimal-apart (exponent-counted c.requires.exponent c.eat.ensures c.eat_either-first.ensures c.requires.counted)
+    counted-few decimal-apart (exponent-counted c.requires.exponent c.eat.ensures c.eat_if-first.ensures c.requires.counted)
 
-pub refused-requires-in-Bad : goal.refused-requires-in-Bad
-refused-requires-in-Bad c =
+pub refused-requires-in-Err : goal.refused-requires-in-Err
+refused-requires-in-Err c =
     let begun = sym c.begins_exponent.ensures ∙ c.if-not-begins_exponent.false in
-    let stuck = exponent-stuck c.requires.exponent c.eat.ensures c.eat_either-first.ensures begun _ _ c.in-Bad.ensures in
+    let stuck = exponent-stuck c.requires.exponent c.eat.ensures c.eat_if-first.ensures begun _ _ c.in-Err.ensures in
     omega (arith, stuck.inside, stuck.last)
 
-pub returns-in-Bad : goal.returns-in-Bad
-returns-in-Bad c =
+pub returns-in-Err : goal.returns-in-Err
+returns-in-Err c =
     let begun = sym c.begins_exponent.ensures ∙ c.if-not-begins_exponent.false in
-    stuck-lexed _ c.refused-in-Bad.ensures (exponent-stuck c.requires.exponent c.eat.ensures c.eat_either-first.ensures begun _ _ c.in-Bad.ensures)
+    stuck-lexed _ c.refused-in-Err.ensures (exponent-stuck c.requires.exponent c.eat.ensures c.eat_if-first.ensures begun _ _ c.in-Err.ensures)
 
-pub refused-requires-then-sees_start : goal.refused-requires-then-sees_start
-refused-requires-then-sees_start c =
+pub refused-requires-then-sees : goal.refused-requires-then-sees
+refused-requires-then-sees c =
     let begun = sym c.begins_exponent.ensures ∙ c.if-not-begins_exponent.false in
-    let after = exponent-after c.requires.exponent c.eat.ensures c.eat_either-first.ensures begun _ _ c.in-Read.ensures in
-    omega (arith, after.up, moved_up _ _ _ c.eat.ensures, optional-up _ _ _ _ c.eat_either-first.ensures)
+    let after = exponent-after c.requires.exponent c.eat.ensures c.eat_if-first.ensures begun _ _ c.in-Ok.ensures in
+    omega (arith, after.up, moved_up _ _ _ c.eat.ensures, optional-up _ _ _ _ c.eat_if-first.ensures)
 
-pub returns-then-sees_start : goal.returns-then-sees_start
-returns-then-sees_start c =
+pub returns-then-sees : goal.returns-then-sees
+returns-then-sees c =
     let begun = sym c.begins_exponent.ensures ∙ c.if-not-begins_exponent.false in
-    let after = exponent-after c.requires.exponent c.eat.ensures c.eat_either-first.ensures begun _ _ c.in-Read.ensures in
-    let seen = sym c.sees_start.ensures ∙ c.if-sees_start.true in
-    exponent-word-lexed c.requires.exponent c.eat.ensures c.eat_either-first.ensures after seen _ c.refused-then-sees_start.ensures
+    let after = exponent-after c.requires.exponent c.eat.ensures c.eat_if-first.ensures begun _ _ c.in-Ok.ensures in
+    let seen = sym c.sees.ensures ∙ c.if-sees.true in
+    exponent-word-lexed c.requires.exponent c.eat.ensures c.eat_if-first.ensures after seen _ c.refused-then-sees.ensures
 
 pub number-requires : goal.number-requires
 number-requires c =
     let begun = sym c.begins_exponent.ensures ∙ c.if-not-begins_exponent.false in
-    (exponent-after c.requires.exponent c.eat.ensures c.eat_either-first.ensures begun _ _ c.in-Read.ensures).reads.ordered
+    (exponent-after c.requires.exponent c.eat.ensures c.eat_if-first.ensures begun _ _ c.in-Ok.ensures).reads.ordered
 
-pub returns-else-sees_start : goal.returns-else-sees_start
-returns-else-sees_start c =
+pub returns : goal.returns
+returns c =
     let begun = sym c.begins_exponent.ensures ∙ c.if-not-begins_exponent.false in
-    let after = exponent-after c.requires.exponent c.eat.ensures c.eat_either-first.ensures begun _ _ c.in-Read.ensures in
-    let first = exponent-counted c.requires.exponent c.eat.ensures c.eat_either-first.ensures c.requires.counted in
-    let up = exponent-up c.requires.exponent c.eat.ensures c.eat_either-first.ensures in
-    let counted = counted-run decimal-apart _ _ _ _ _ up first c.in-Read.ensures in
-    float-lexed _ (exponent-ends after (sym c.sees_start.ensures ∙ c.if-sees_start.false)) counted c.number.ensures
+    let after = exponent-after c.requires.exponent c.eat.ensures c.eat_if-first.ensures begun _ _ c.in-Ok.ensures in
+    let first = exponent-counted c.requires.exponent c.eat.ensures c.eat_if-first.ensures c.requires.counted in
+    let up = exponent-up c.requires.exponent c.eat.ensures c.eat_if-first.ensures in
+    let counted = counted-run decimal-apart _ _ _ _ _ up first c.in-Ok.ensures in
+    float-lexed _ (exponent-ends after (sym c.sees.ensures ∙ c.if-sees.false)) counted c.number.ensures

@@ -11,29 +11,29 @@ loop-end-init c = c.requires
 
 pub token-requires : goal.token-requires
 token-requires c =
-    let missed = missed-past _ _ _ _ c.in-Missed.ensures in
+    let missed = missed-past _ _ _ _ c.in-Err.ensures in
     (comment-ends c.loop-end.invariant missed.0 missed.1).ordered
 
-pub returns-in-Missed : goal.returns-in-Missed
-returns-in-Missed c =
-    let missed = missed-past _ _ _ _ c.in-Missed.ensures in
+pub returns-in-Err : goal.returns-in-Err
+returns-in-Err c =
+    let missed = missed-past _ _ _ _ c.in-Err.ensures in
     comment-lexed (inr (comment-ends c.loop-end.invariant missed.0 missed.1)) _ c.token.ensures
 
 pub token-requires-then-sees : goal.token-requires-then-sees
 token-requires-then-sees c =
-    let starred = comment-star c.loop-end.invariant (found-past _ _ _ _ c.in-Found.ensures) in
+    let starred = comment-star c.loop-end.invariant (found-past _ _ _ _ c.in-Ok.ensures) in
     (comment-closed starred (sym c.sees.ensures ∙ c.if-sees.true) c.eat.ensures).ordered
 
 pub returns-then-sees : goal.returns-then-sees
 returns-then-sees c =
-    let starred = comment-star c.loop-end.invariant (found-past _ _ _ _ c.in-Found.ensures) in
+    let starred = comment-star c.loop-end.invariant (found-past _ _ _ _ c.in-Ok.ensures) in
     comment-lexed (inl (comment-closed starred (sym c.sees.ensures ∙ c.if-sees.true) c.eat.ensures)) _ c.token-then-sees.ensures
 
 pub loop-end-smaller : goal.loop-end-smaller
 loop-end-smaller c =
-    let on = reached-on _ _ _ _ (found-past _ _ _ _ c.in-Found.ensures) in
+    let on = reached-on _ _ _ _ (found-past _ _ _ _ c.in-Ok.ensures) in
     omega arith
 
 pub loop-end-preserved : goal.loop-end-preserved
 loop-end-preserved c =
-    comment-more (comment-star c.loop-end.invariant (found-past _ _ _ _ c.in-Found.ensures)) (sym c.sees.ensures ∙ c.if-sees.false)
+    comment-more (comment-star c.loop-end.invariant (found-past _ _ _ _ c.in-Ok.ensures)) (sym c.sees.ensures ∙ c.if-sees.false)

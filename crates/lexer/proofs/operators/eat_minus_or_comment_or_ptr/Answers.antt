@@ -10,7 +10,7 @@ use Rattle.lexer.proofs.operators.eat_minus_or_comment_or_ptr.Goals as goal
 pub token-requires : goal.token-requires
 token-requires c =
     let eat3 = c.eat-then-sees in
-    let eat-until = c.eat_until in
+    let eat-until = c.eat_while in
     let eat2 = c.eat in
     let eat = c.eat-minus in
     omega (arith, moved_up _ _ _ eat.ensures, moved_up _ _ _ eat2.ensures, over-on _ _ _ _ eat-until.ensures, moved_up _ _ _ eat3.ensures)
@@ -19,7 +19,7 @@ pub returns-then-sees : goal.returns-then-sees
 returns-then-sees c =
     let one = spelled-first 45 _ _ c.requires c.eat-minus.ensures in
     let two = spelled-more one 45 (sym c.sees.ensures ∙ c.if-sees.true) c.eat.ensures in
-    line-lexed two c.eat_until.ensures c.eat-then-sees.ensures _ c.token.ensures
+    line-lexed two c.eat_while.ensures c.eat-then-sees.ensures _ c.token.ensures
 
 pub token-requires-then-sees-3 : goal.token-requires-then-sees-3
 token-requires-then-sees-3 c =

@@ -4,8 +4,8 @@ use Rattle.lexer.proofs.OperatorLaws.{blanks-lexed}
 use Rattle.lexer.proofs.operators.eat_white_space.Goals as goal
 
 pub token-requires : goal.token-requires
-token-requires c = moved-over _ _ _ _ _ c.eat.ensures c.eat_while_blank.ensures
+token-requires c = moved-over _ _ _ _ _ c.eat.ensures c.eat_while.ensures
 
 pub returns : goal.returns
 returns c =
-    blanks-lexed _ _ _ _ c.requires c.eat.ensures c.eat_while_blank.ensures _ c.token.ensures
+    blanks-lexed _ _ _ _ c.requires c.eat.ensures c.eat_while.ensures _ c.token.ensures

@@ -13,16 +13,16 @@ loop-start-init c = (c.requires, λ π reads. reads)
 pub eat_name-requires : goal.eat_name-requires
 eat_name-requires c = c.loop-start.invariant.0
 
-pub returns-then-sees_continue : goal.returns-then-sees_continue
-returns-then-sees_continue c =
-    λ π reads. c.eat_name.ensures π (name-reads (c.loop-start.invariant.1 π reads) (sym c.sees_continue.ensures ∙ c.if-sees_continue.true))
+pub returns-then-sees : goal.returns-then-sees
+returns-then-sees c =
+    λ π reads. c.eat_name.ensures π (name-reads (c.loop-start.invariant.1 π reads) (sym c.sees.ensures ∙ c.if-sees.true))
 
 pub refused-requires : goal.refused-requires
 refused-requires c = c.loop-start.invariant.0
 
 pub returns-then-not-sees_pair : goal.returns-then-not-sees_pair
 returns-then-not-sees_pair c =
-    let no_name = sym c.sees_continue.ensures ∙ c.if-sees_continue.false in
+    let no_name = sym c.sees.ensures ∙ c.if-sees.false in
     let no-pair = sym c.sees_pair.ensures ∙ c.if-not-sees_pair.true in
     λ π reads. nameless-lexed _ (nameless-ends (c.loop-start.invariant.1 π reads) no_name no-pair) c.refused.ensures
 

@@ -6,24 +6,24 @@ use Rattle.lexer.proofs.quoted.eat_bracketed.Goals as goal
 
 pub refused-requires : goal.refused-requires
 refused-requires c =
-    let missed = missed-past _ _ _ _ c.in-Missed.ensures in
+    let missed = missed-past _ _ _ _ c.in-Err.ensures in
     let one = spelled-first 91 _ _ c.requires c.eat.ensures in
     (bracket-open one missed.0 missed.1).ordered
 
 pub token-requires : goal.token-requires
 token-requires c =
-    let found = found-past _ _ _ _ c.in-Found.ensures in
+    let found = found-past _ _ _ _ c.in-Ok.ensures in
     let one = spelled-first 91 _ _ c.requires c.eat.ensures in
     (bracket-closed one found).ordered
 
-pub returns-in-Missed : goal.returns-in-Missed
-returns-in-Missed c =
-    let missed = missed-past _ _ _ _ c.in-Missed.ensures in
+pub returns-in-Err : goal.returns-in-Err
+returns-in-Err c =
+    let missed = missed-past _ _ _ _ c.in-Err.ensures in
     let one = spelled-first 91 _ _ c.requires c.eat.ensures in
     open-lexed (bracket-open one missed.0 missed.1) _ c.refused.ensures
 
-pub returns-in-Found : goal.returns-in-Found
-returns-in-Found c =
-    let found = found-past _ _ _ _ c.in-Found.ensures in
+pub returns-in-Ok : goal.returns-in-Ok
+returns-in-Ok c =
+    let found = found-past _ _ _ _ c.in-Ok.ensures in
     let one = spelled-first 91 _ _ c.requires c.eat.ensures in
     bracket-lexed (bracket-closed one found) _ c.token.ensures

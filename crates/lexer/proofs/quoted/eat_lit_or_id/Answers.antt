@@ -12,31 +12,31 @@ loop-end-init c = (quote-opens _ c.requires.1 c.requires.0 c.eat-body.ensures, c
 
 pub refused-requires : goal.refused-requires
 refused-requires c =
-    let missed = missed-past _ _ _ _ c.in-Missed.ensures in
+    let missed = missed-past _ _ _ _ c.in-Err.ensures in
     (quote-open _ c.loop-end.invariant.1 c.loop-end.invariant.0 missed.0 missed.1).ordered
 
-pub returns-in-Missed : goal.returns-in-Missed
-returns-in-Missed c =
-    let missed = missed-past _ _ _ _ c.in-Missed.ensures in
+pub returns-in-Err : goal.returns-in-Err
+returns-in-Err c =
+    let missed = missed-past _ _ _ _ c.in-Err.ensures in
     open-lexed (quote-open _ c.loop-end.invariant.1 c.loop-end.invariant.0 missed.0 missed.1) _ c.refused.ensures
 
 pub token-requires : goal.token-requires
 token-requires c =
-    let reads = quote-found _ c.loop-end.invariant.1 c.loop-end.invariant.0 (found-past _ _ _ _ c.in-Found.ensures) in
+    let reads = quote-found _ c.loop-end.invariant.1 c.loop-end.invariant.0 (found-past _ _ _ _ c.in-Ok.ensures) in
     (quote-closed _ c.loop-end.invariant.1 reads (sym c.sees.ensures ∙ c.if-not-sees.true)).ordered
 
 pub returns-then-not-sees : goal.returns-then-not-sees
 returns-then-not-sees c =
-    let reads = quote-found _ c.loop-end.invariant.1 c.loop-end.invariant.0 (found-past _ _ _ _ c.in-Found.ensures) in
+    let reads = quote-found _ c.loop-end.invariant.1 c.loop-end.invariant.0 (found-past _ _ _ _ c.in-Ok.ensures) in
     let ends = quote-closed _ c.loop-end.invariant.1 reads (sym c.sees.ensures ∙ c.if-not-sees.true) in
     quoted-lexed c.args.quote ends _ c.quote_kind.ensures _ c.token.ensures
 
 pub loop-end-smaller : goal.loop-end-smaller
 loop-end-smaller c =
-    let on = reached-on _ _ _ _ (found-past _ _ _ _ c.in-Found.ensures) in
-    omega (arith, moved_up _ _ _ c.eat-body-in-Found.ensures)
+    let on = reached-on _ _ _ _ (found-past _ _ _ _ c.in-Ok.ensures) in
+    omega (arith, moved_up _ _ _ c.eat-body-in-Ok.ensures)
 
 pub loop-end-preserved : goal.loop-end-preserved
 loop-end-preserved c =
-    let reads = quote-found _ c.loop-end.invariant.1 c.loop-end.invariant.0 (found-past _ _ _ _ c.in-Found.ensures) in
-    (quote-again _ c.loop-end.invariant.1 reads (sym c.sees.ensures ∙ c.if-not-sees.false) c.eat-body-in-Found.ensures, c.loop-end.invariant.1)
+    let reads = quote-found _ c.loop-end.invariant.1 c.loop-end.invariant.0 (found-past _ _ _ _ c.in-Ok.ensures) in
+    (quote-again _ c.loop-end.invariant.1 reads (sym c.sees.ensures ∙ c.if-not-sees.false) c.eat-body-in-Ok.ensures, c.loop-end.invariant.1)

@@ -5,5 +5,5 @@ use Rattle.lexer.proofs.quoted.quote_kind.Goals as goal
 pub returns-then-quote-eq39 : goal.returns-then-quote-eq39
 returns-then-quote-eq39 c = rw (eq-eqb _ 39 c.if-quote-eq39.true)
 
-pub returns : goal.returns
-returns c = rw (ne_eqb _ 39 c.if-quote-eq39.false)
+pub returns-else-quote-eq39 : goal.returns-else-quote-eq39
+returns-else-quote-eq39 c = rw (ne_eqb _ 39 c.if-quote-eq39.false)

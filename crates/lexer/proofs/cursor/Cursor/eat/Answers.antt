@@ -5,5 +5,5 @@ use Rattle.lexer.proofs.cursor.Cursor.eat.Goals as goal
 pub returns-then-at-text : goal.returns-then-at-text
 returns-then-at-text c = moved_on _ _ c.if-at-text.true
 
-pub returns : goal.returns
-returns c = moved-not _ _ c.if-at-text.false
+pub returns-else-at-text : goal.returns-else-at-text
+returns-else-at-text c = moved-not _ _ c.if-at-text.false

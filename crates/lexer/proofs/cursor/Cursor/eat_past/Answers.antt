@@ -4,8 +4,7 @@ use Rattle.lexer.proofs.EatLaws.{past-found, past-missed}
 use Rattle.lexer.proofs.cursor.Cursor.eat_past.Goals as goal
 
 pub returns-then-sees : goal.returns-then-sees
-returns-then-sees c = past-found _ _ _ _ c.eat_until-stop.ensures _ (sym c.sees.ensures ∙ c.if-sees.true) c.eat.ensures
+returns-then-sees c = past-found _ _ _ _ c.eat_while-stop.ensures _ (sym c.sees.ensures ∙ c.if-sees.true) c.eat.ensures
 
-pub returns : goal.returns
-returns c =
-    past-missed _ _ _ _ c.eat_until-stop.ensures (sym c.sees.ensures ∙ c.if-sees.false)
+pub returns-else-sees : goal.returns-else-sees
+returns-else-sees c = past-missed _ _ _ _ c.eat_while-stop.ensures (sym c.sees.ensures ∙ c.if-sees.false)

@@ -1,0 +1,11 @@
+-- `lexer::cursor::Cursor::eat_if` meets its contract. Assumes nothing.
+use mathlib.Core.Path.{◌∙◌, sym}
+use Rattle.grammar.proofs.Seen.{optional-none}
+use Rattle.lexer.proofs.EatLaws.{optional-taken}
+use Rattle.lexer.proofs.cursor.Cursor.eat_if.Goals as goal
+
+pub returns-then-sees : goal.returns-then-sees
+returns-then-sees g c = optional-taken _ _ _ _ (sym c.sees.ensures ∙ c.if-sees.true) c.eat.ensures
+
+pub returns-else-sees : goal.returns-else-sees
+returns-else-sees g c = sym (optional-none _ _ _ (sym c.sees.ensures ∙ c.if-sees.false))
