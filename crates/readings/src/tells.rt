@@ -10,30 +10,20 @@ pub fn is_lexeme(reading: Reading) -> bool
     ensures { result ≡ is_lexeme reading }
 {
     match reading {
-        Reading::Dead => false,
-        Reading::Whole => true,
-        Reading::Start => false,
-        Reading::Run(_) => true,
-        Reading::Operator(_) => true,
-        Reading::Quoted(_) => true,
+        Reading::Dead | Reading::Start => false,
+        Reading::Whole
+        | Reading::Run(_)
+        | Reading::Operator(_)
+        | Reading::Quoted(_)
+        | Reading::Number(_) => true,
         Reading::Named(named) => !is_half(named),
-        Reading::Number(_) => true,
     }
 }
 
 fn is_half(named: Named) -> bool
     ensures { result ≡ is_half named }
 {
-    match named {
-        Named::Sigil => false,
-        Named::SigilColon => true,
-        Named::Colon => false,
-        Named::At => false,
-        Named::Name => false,
-        Named::NameColon => true,
-        Named::Paren => false,
-        Named::Question => false,
-    }
+    matches!(named, Named::SigilColon | Named::NameColon)
 }
 
 // Whether nothing longer is one.
@@ -41,14 +31,5 @@ fn is_half(named: Named) -> bool
 pub fn is_settled(reading: Reading) -> bool
     ensures { result ≡ is_settled reading }
 {
-    match reading {
-        Reading::Dead => true,
-        Reading::Whole => true,
-        Reading::Start => false,
-        Reading::Run(_) => false,
-        Reading::Operator(_) => false,
-        Reading::Quoted(_) => false,
-        Reading::Named(_) => false,
-        Reading::Number(_) => false,
-    }
+    matches!(reading, Reading::Dead | Reading::Whole)
 }
