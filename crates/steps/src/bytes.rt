@@ -9,44 +9,25 @@ use words::bytes::{is_blank, is_identifier_start};
 pub(crate) fn is_either(x: u8, y: u8, b: u8) -> bool
     ensures { result ≡ holds (byte x or byte y or none) b }
 {
-    if b == x {
-        return true;
-    }
-    if b == y {
-        return true;
-    }
-    false
+    b == x || b == y
 }
 
 pub(crate) fn is_word_start(b: u8) -> bool
     ensures { result ≡ holds (S or char "#") b }
 {
-    if is_identifier_start(b) {
-        return true;
-    }
-    b == b'#'
+    is_identifier_start(b) || b == b'#'
 }
 
 // What starts nothing.
 pub(crate) fn is_unrecognized(b: u8) -> bool
     ensures { result ≡ holds U b }
 {
-    match b {
-        b'\\' => true,
-        b'^' => true,
-        b'{' => true,
-        b'}' => true,
-        0x7F => true,
-        _ => is_unprinted(b),
-    }
+    matches!(b, b'\\' | b'^' | b'{' | b'}' | 0x7F) || is_unprinted(b)
 }
 
 // 00 to 1F but for blanks.
 fn is_unprinted(b: u8) -> bool
     ensures { result ≡ holds (control except blank) b }
 {
-    if b > 0x1F {
-        return false;
-    }
-    !is_blank(b)
+    b <= 0x1F && !is_blank(b)
 }

@@ -2,22 +2,22 @@
 ghost use Rattle.std.specs.Prelude.{◌≡◌};
 ghost use Rattle.readings.specs.Arrows.{in_named, follow};
 
-use crate::single::{byte_to, digit_to};
+use crate::single::only;
 use readings::reading::{Named, Reading};
-use words::bytes::{is_blank, is_identifier_continue, is_identifier_start};
+use words::bytes::{is_blank, is_digit, is_identifier_continue, is_identifier_start};
 
 pub(crate) fn in_named(named: Named, b: u8) -> Reading
     ensures { result ≡ follow (in_named named) b }
 {
     match named {
         Named::Sigil => after_sigil(b),
-        Named::SigilColon => byte_to(b':', Reading::Named(Named::Sigil), b),
+        Named::SigilColon => only(b == b':', Reading::Named(Named::Sigil)),
         Named::Colon => after_colon(b),
         Named::At => after_at(b),
         Named::Name => in_name(b),
-        Named::NameColon => byte_to(b':', Reading::Named(Named::Name), b),
+        Named::NameColon => only(b == b':', Reading::Named(Named::Name)),
         Named::Paren => in_paren(b),
-        Named::Question => digit_to(Reading::Named(Named::Question), b),
+        Named::Question => only(is_digit(b), Reading::Named(Named::Question)),
     }
 }
 
@@ -25,49 +25,50 @@ fn after_sigil(b: u8) -> Reading
     ensures { result ≡ follow (in_named Named.Sigil) b }
 {
     if is_identifier_continue(b) {
-        return Reading::Named(Named::Name);
+        Reading::Named(Named::Name)
+    } else {
+        only(b == b':', Reading::Named(Named::SigilColon))
     }
-    byte_to(b':', Reading::Named(Named::SigilColon), b)
 }
 
 fn after_colon(b: u8) -> Reading
     ensures { result ≡ follow (in_named Named.Colon) b }
 {
     if is_identifier_start(b) {
-        return Reading::Named(Named::Name);
+        Reading::Named(Named::Name)
+    } else {
+        only(b == b':', Reading::Named(Named::SigilColon))
     }
-    byte_to(b':', Reading::Named(Named::SigilColon), b)
 }
 
 fn after_at(b: u8) -> Reading
     ensures { result ≡ follow (in_named Named.At) b }
 {
     if b == b'>' {
-        return Reading::Whole;
+        Reading::Whole
+    } else {
+        after_sigil(b)
     }
-    after_sigil(b)
 }
 
 fn in_name(b: u8) -> Reading
     ensures { result ≡ follow (in_named Named.Name) b }
 {
     if is_identifier_continue(b) {
-        return Reading::Named(Named::Name);
+        Reading::Named(Named::Name)
+    } else if b == b':' {
+        Reading::Named(Named::NameColon)
+    } else {
+        only(b == b'(', Reading::Named(Named::Paren))
     }
-    if b == b':' {
-        return Reading::Named(Named::NameColon);
-    }
-    byte_to(b'(', Reading::Named(Named::Paren), b)
 }
 
 fn in_paren(b: u8) -> Reading
     ensures { result ≡ follow (in_named Named.Paren) b }
 {
     if b == b')' {
-        return Reading::Whole;
+        Reading::Whole
+    } else {
+        only(!is_blank(b), Reading::Named(Named::Paren))
     }
-    if is_blank(b) {
-        return Reading::Dead;
-    }
-    Reading::Named(Named::Paren)
 }

@@ -2,48 +2,30 @@
 ghost use Rattle.std.specs.Prelude.{◌≡◌};
 ghost use Rattle.readings.specs.Arrows.{in_operator, follow};
 
-use crate::bytes::is_either;
-use crate::single::byte_to;
+use crate::single::only;
 use readings::reading::{Operator, Reading, Run};
 
 pub(crate) fn in_operator(operator: Operator, b: u8) -> Reading
     ensures { result ≡ follow (in_operator operator) b }
 {
     match operator {
-        Operator::Equals => byte_to(b'=', Reading::Whole, b),
-        Operator::Ampersand => byte_to(b'&', Reading::Whole, b),
+        Operator::Equals => only(b == b'=', Reading::Whole),
+        Operator::Ampersand => only(b == b'&', Reading::Whole),
         Operator::Minus => after_minus(b),
-        Operator::Pointer => byte_to(b'>', Reading::Whole, b),
-        Operator::Less => after_less(b),
-        Operator::Greater => after_greater(b),
-        Operator::Bar => byte_to(b'|', Reading::Whole, b),
-        Operator::Slash => byte_to(b'*', Reading::Run(Run::Block), b),
+        Operator::Pointer => only(b == b'>', Reading::Whole),
+        Operator::Less => only(matches!(b, b'<' | b'=' | b'>'), Reading::Whole),
+        Operator::Greater => only(matches!(b, b'=' | b'>'), Reading::Whole),
+        Operator::Bar => only(b == b'|', Reading::Whole),
+        Operator::Slash => only(b == b'*', Reading::Run(Run::Block)),
     }
 }
 
 fn after_minus(b: u8) -> Reading
     ensures { result ≡ follow (in_operator Operator.Minus) b }
 {
-    if b == b'-' {
-        return Reading::Run(Run::Line);
+    match b {
+        b'-' => Reading::Run(Run::Line),
+        b'>' => Reading::Operator(Operator::Pointer),
+        _ => Reading::Dead,
     }
-    byte_to(b'>', Reading::Operator(Operator::Pointer), b)
-}
-
-fn after_less(b: u8) -> Reading
-    ensures { result ≡ follow (in_operator Operator.Less) b }
-{
-    if b == b'<' {
-        return Reading::Whole;
-    }
-    after_greater(b)
-}
-
-fn after_greater(b: u8) -> Reading
-    ensures { result ≡ follow (in_operator Operator.Greater) b }
-{
-    if is_either(b'=', b'>', b) {
-        return Reading::Whole;
-    }
-    Reading::Dead
 }

@@ -17,8 +17,7 @@ pub fn step(profile: Profile, reading: Reading, b: u8) -> Reading
     ensures { result ≡ onward profile reading b }
 {
     match reading {
-        Reading::Dead => Reading::Dead,
-        Reading::Whole => Reading::Dead,
+        Reading::Dead | Reading::Whole => Reading::Dead,
         Reading::Start => at_start(profile, b),
         Reading::Run(run) => in_run(run, b),
         Reading::Operator(operator) => in_operator(operator, b),

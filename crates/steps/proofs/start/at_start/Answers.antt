@@ -10,8 +10,8 @@ returns-then-is_digit c =
     let digit = sym c.is_digit.ensures ∙ c.if-is_digit.true in
     rw (c.at_digit.ensures, blank, no-x _ word, word, digit)
 
-pub returns : goal.returns
-returns c =
+pub returns-else-is_digit : goal.returns-else-is_digit
+returns-else-is_digit c =
     let blank = sym c.is_blank.ensures ∙ c.if-is_blank.false in
     let word = sym c.is_word_start.ensures ∙ c.if-is_word_start.false in
     let digit = sym c.is_digit.ensures ∙ c.if-is_digit.false in
