@@ -1,5 +1,5 @@
 // Bytes of a part into the row, each read as it comes, until no byte more is wanted.
-ghost use Rattle.std.specs.Prelude.{◌≡◌, ◌-◌, ◌≤◌, ◌<◌, min, length};
+ghost use Rattle.std.specs.Prelude.{◌≡◌, ◌+◌, ◌≤◌, ◌<◌, length};
 ghost use Rattle.intake.specs.Takes.{is_over, is_ready, behind, front, TakesIn};
 ghost use Rattle.intake.specs.Takes.{read_so_far, is_wanted, filled, filling};
 
@@ -25,10 +25,7 @@ pub struct Taken {
 pub fn is_over(reading: Reading, held: usize) -> bool
     ensures { result ≡ is_over reading held }
 {
-    if held <= LONGEST {
-        return false;
-    }
-    is_lexeme(reading)
+    LONGEST < held && is_lexeme(reading)
 }
 
 // No byte more is wanted; a full row holds no more.
@@ -36,84 +33,77 @@ pub fn is_over(reading: Reading, held: usize) -> bool
 fn is_ready(room: usize, reading: Reading, held: usize) -> bool
     ensures { result ≡ is_ready room reading held }
 {
-    if is_settled(reading) {
-        return true;
-    }
-    if is_over(reading, held) {
-        return true;
-    }
-    room <= held
+    is_settled(reading) || is_over(reading, held) || room <= held
 }
 
-// A byte is to be read: one that is held, or one more of the part.
-#[tactic(auto, unfolding(crate::specs::Takes::is_wanted))]
-fn is_wanted(
-    room: usize,
+// Where `take_in` stands: the reading of so many bytes of those that are held, and how many came from the part.
+#[derive(Clone, Copy)]
+struct Progress {
     reading: Reading,
     read: usize,
     held: usize,
     taken: usize,
-    part: usize,
-) -> bool
-    ensures { result ≡ is_wanted room reading read held taken part }
-{
-    if read < held {
-        return true;
-    }
-    if is_ready(room, reading, held) {
-        return false;
-    }
-    taken < part
 }
 
-// A byte of the part into the row, where all that is held was read; how many bytes that were.
-#[tactic(auto, unfolding(crate::specs::Takes::filled, crate::specs::Takes::filling))]
-fn fill(row: &mut [u8], read: usize, held: usize, part: &[u8], taken: usize) -> usize
-    requires { held ≤ read → (held < length row.old) × (taken < length part.now) }
-    ensures { (result ≡ filled read held) × (row.new ≡ filling row.old read held part.now taken) }
-{
-    if read < held {
-        return 0;
+impl Progress {
+    // A byte is to be read: one that is held, or one more of the part.
+    #[tactic(auto, unfolding(crate::specs::Takes::is_wanted))]
+    fn is_wanted(&self, room: usize, part: usize) -> bool
+        ensures { result ≡ is_wanted room self.now.reading self.now.read self.now.held self.now.taken part }
+    {
+        self.read < self.held || (!is_ready(room, self.reading, self.held) && self.taken < part)
     }
-    row[held] = part[taken];
-    1
+
+    // A byte of the part into the row, where all that is held was read.
+    #[tactic(auto, unfolding(crate::specs::Takes::filled, crate::specs::Takes::filling))]
+    fn fill(&mut self, row: &mut [u8], part: &[u8])
+        requires { self.old.held ≤ self.old.read → (self.old.held < length row.old) × (self.old.taken < length part.now) }
+        ensures kept { (self.new.reading ≡ self.old.reading) × (self.new.read ≡ self.old.read) }
+        ensures held { self.new.held ≡ self.old.held + filled self.old.read self.old.held }
+        ensures taken { self.new.taken ≡ self.old.taken + filled self.old.read self.old.held }
+        ensures row { row.new ≡ filling row.old self.old.read self.old.held part.now self.old.taken }
+    {
+        if self.held <= self.read {
+            row[self.held] = part[self.taken];
+            self.held += 1;
+            self.taken += 1;
+        }
+    }
 }
 
 // Bytes into the row, each read as it comes, until no byte more is wanted; but first what is held and has still to be read. `step` is called
-// at this one place, so that it becomes part of the loop.
+// at this one place, so that it becomes part of the loop: a `for` over what is held and one over the part would be two.
 pub fn take_in(stream: Stream, row: &mut [u8], part: &[u8]) -> Taken
     ensures { TakesIn stream row.old part.now result row.new }
 {
-    let profile = stream.profile;
-    let mut reading = stream.reading;
-    let mut held = bring(row, stream.given, stream.held);
-    let mut read = read_so_far(stream.given, held);
-    let mut taken: usize = 0;
-    while is_wanted(row.len(), reading, read, held, taken, part.len()) {
-        let more = fill(row, read, held, part, taken);
-        held += more;
-        taken += more;
-        reading = step(profile, reading, row[read]);
-        read += 1;
-    }
-    let ready = is_ready(row.len(), reading, held);
-    Taken {
-        reading,
+    let held = bring(row, stream.given, stream.held);
+    let mut at = Progress {
+        reading: stream.reading,
+        read: read_so_far(stream.given, held),
         held,
-        taken,
-        ready,
+        taken: 0,
+    };
+    while at.is_wanted(row.len(), part.len()) {
+        at.fill(row, part);
+        at.reading = step(stream.profile, at.reading, row[at.read]);
+        at.read += 1;
+    }
+    Taken {
+        reading: at.reading,
+        held: at.held,
+        taken: at.taken,
+        ready: is_ready(row.len(), at.reading, at.held),
     }
 }
 
-// The bytes behind the last token to the row's front; how many these are.
+// The bytes behind the last token to the row's front; how many these are. Where no token was given they lie there already.
 pub fn bring(row: &mut [u8], given: usize, held: usize) -> usize
     ensures { (result ≡ length (behind given held row.old)) × (row.new ≡ front (behind given held row.old) row.old) }
 {
-    let back = less(least(held, row.len()), given);
-    let mut at = read_so_far(given, back);
-    while at < back {
-        row[at] = row[given + at];
-        at += 1;
+    let end = held.min(row.len());
+    let back = end.saturating_sub(given);
+    if 0 < given && given < end {
+        row.copy_within(given..end, 0);
     }
     back
 }
@@ -123,26 +113,5 @@ pub fn bring(row: &mut [u8], given: usize, held: usize) -> usize
 fn read_so_far(given: usize, held: usize) -> usize
     ensures { result ≡ read_so_far given held }
 {
-    if given == 0 {
-        return held;
-    }
-    0
-}
-
-pub fn less(a: usize, b: usize) -> usize
-    ensures { result ≡ a - b }
-{
-    if a < b {
-        return 0;
-    }
-    a - b
-}
-
-fn least(a: usize, b: usize) -> usize
-    ensures { result ≡ min a b }
-{
-    if a < b {
-        return a;
-    }
-    b
+    if given == 0 { held } else { 0 }
 }

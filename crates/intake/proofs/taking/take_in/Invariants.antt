@@ -6,10 +6,12 @@ use Rattle.readings.specs.Arrows.{onwards}
 use Rattle.intake.proofs.TakeLaws.{Inside}
 use Rattle.intake.proofs.taking.take_in.Given as goal
 
-abbrev pub invariant-loop-profile : goal.invariant-loop-profile
-invariant-loop-profile l =
-    (l.held ≤ length l.initial.row) ×
-    Inside (length l.initial.row) l.profile (onwards l.profile l.initial.reading (drop l.initial.read (take l.initial.held l.initial.row))) (take l.initial.held l.initial.row) l.part l.initial.row l.reading l.read l.held l.taken l.row
+abbrev pub invariant-loop-stream : goal.invariant-loop-stream
+invariant-loop-stream l =
+    let s = l.stream in
+    let w = take l.held l.initial.row in
+    (l.at.held ≤ length l.initial.row) ×
+    Inside (length l.initial.row) s.profile (onwards s.profile s.reading (drop l.initial.at.read w)) w l.part l.initial.row l.at.reading l.at.read l.at.held l.at.taken l.row
 
-abbrev pub decreases-loop-profile : goal.decreases-loop-profile
-decreases-loop-profile l = length l.initial.row - l.read
+abbrev pub decreases-loop-stream : goal.decreases-loop-stream
+decreases-loop-stream l = length l.initial.row - l.at.read
