@@ -11,13 +11,34 @@ use Rattle.keywords.proofs.Logic.{split}
 use Rattle.grammar.specs.declared.profile.Profile.{Profile}
 use Rattle.readings.specs.declared.reading.Reading.{Reading}
 use Rattle.readings.specs.Arrows.{onward}
+use Rattle.intake.specs.declared.state.Phase.{Phase}
+use Rattle.intake.specs.declared.state.Phase.TheVariants.{Open, Ending, Closed}
 use Rattle.intake.specs.declared.state.Stream.{Stream}
 use Rattle.stream.specs.declared.stream.Given.{Given}
+use Rattle.stream.specs.declared.stream.Answer.{Answer}
 use Rattle.stream.specs.declared.stream.Answer.TheVariants.{More}
+use Rattle.stream.specs.Refusals.{own}
+use Prim.Native.String.{String}
 use Rattle.intake.specs.Takes.{is_over, is_ready, takes, front, waiting, taken_of, text_of, read_then, ready_then}
 use Rattle.stream.specs.Calls.{Course, refuse_closed, refuse_part, ask_more, refuse_lexeme, lex, most, is_open, is_closed, offering}
-use Rattle.stream.specs.Calls.{Refuses, Answers, Goes, closed, holding, ended, moved, Offered, Finished}
+use Rattle.stream.specs.Calls.{tells, values_of, last_end, Refuses, Answers, Goes, closed, holding, ended, moved, Offered, Finished}
 use Rattle.intake.proofs.TakeLaws.{unready-room}
+
+-- a phase that is another
+pub not-open : (p : Phase) → (p ≡ Open → ⊥) → is_open p ≡ false
+not-open Open f = absurd (f refl)
+not-open Ending f = refl
+not-open Closed f = refl
+
+pub not-closed : (p : Phase) → (p ≡ Closed → ⊥) → is_closed p ≡ false
+not-closed Open f = refl
+not-closed Ending f = refl
+not-closed Closed f = absurd (f refl)
+
+-- a refusal by its parts
+pub refuses : (s : Stream) (n : ℕ) (name : String) (a : Answer) (g : Given) → values_of a ≡ tells (own name (last_end s)) → g.stream ≡ s → g.taken ≡ n
+    → g.answer ≡ a → Refuses s n name g
+refuses s n name a g e l t told = record { left = l; taken = t; told = ap values_of told ∙ e }
 
 -- what is taken stays in the part and in the row
 pub takes_part : (full : ℕ) (p : Profile) (r : Reading) (h : ℕ) (part : List ℕ) → takes full p r h part ≤ length part

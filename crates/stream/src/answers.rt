@@ -1,12 +1,12 @@
 // The answers of a stream, each with the stream to go on with.
-ghost use Rattle.std.specs.Prelude.{◌≡◌, [], ◌+◌, ◌≤◌, length, take};
+ghost use Rattle.std.specs.Prelude.{◌≡◌, ◌+◌, ◌≤◌, length, take};
 ghost use Rattle.lexer.specs.Values.{LexesUnder};
-ghost use Rattle.stream.specs.Calls.{last_end, closed, holding, ended, passed, Refuses, Answers};
+ghost use Rattle.stream.specs.Calls.{last_end, closed, holding, ended, passed, Answers};
 
 use crate::stream::{Answer, Given};
 use grammar::profile::Profile;
 use intake::state::{Phase, Stream};
-use intake::taking::{Taken, less};
+use intake::taking::Taken;
 use lexer::cursor::Cursor;
 use lexer::lexed::Lexed;
 use lexer::next::next;
@@ -17,21 +17,16 @@ use readings::reading::Reading;
 pub(crate) fn last_end(stream: Stream) -> usize
     ensures { (result ≡ last_end stream) × (result ≤ 4294967295) }
 {
-    less(stream.total as usize, less(stream.held, stream.given))
+    let behind = stream.held.saturating_sub(stream.given);
+    (stream.total as usize).saturating_sub(behind)
 }
 
 pub(crate) fn close(stream: Stream) -> Stream
     ensures { result ≡ closed stream }
 {
-    let profile = stream.profile;
-    let reading = stream.reading;
     Stream {
-        profile,
-        reading,
         phase: Phase::Closed,
-        given: stream.given,
-        held: stream.held,
-        total: stream.total,
+        ..stream
     }
 }
 
@@ -40,16 +35,12 @@ pub(crate) fn hold(stream: Stream, took: Taken) -> Stream
     requires { stream.total + took.taken ≤ 4294967295 }
     ensures { result ≡ holding stream took.reading took.held took.taken }
 {
-    let profile = stream.profile;
-    let phase = stream.phase;
-    let reading = took.reading;
     Stream {
-        profile,
-        reading,
-        phase,
+        reading: took.reading,
         given: 0,
         held: took.held,
         total: stream.total + took.taken as u32,
+        ..stream
     }
 }
 
@@ -57,15 +48,11 @@ pub(crate) fn hold(stream: Stream, took: Taken) -> Stream
 pub(crate) fn end(stream: Stream, held: usize) -> Stream
     ensures { result ≡ ended stream held }
 {
-    let profile = stream.profile;
-    let reading = stream.reading;
     Stream {
-        profile,
-        reading,
         phase: Phase::Ending,
         given: 0,
         held,
-        total: stream.total,
+        ..stream
     }
 }
 
@@ -73,50 +60,24 @@ pub(crate) fn end(stream: Stream, held: usize) -> Stream
 fn pass(stream: Stream, token: usize) -> Stream
     ensures { result ≡ passed stream token }
 {
-    let profile = stream.profile;
-    let phase = stream.phase;
     Stream {
-        profile,
         reading: Reading::Start,
-        phase,
         given: token,
-        held: stream.held,
-        total: stream.total,
+        ..stream
     }
 }
 
-pub(crate) fn refuse_closed(stream: Stream) -> Given
-    ensures { Refuses stream 0 "Closed" result }
+// A refusal of the stream's own, which is told with the end of the token given last.
+pub(crate) fn refuse<F: FnOnce(usize) -> Answer>(stream: Stream, taken: usize, tell: F) -> Given
+    requires { F.IsAlwaysCallable tell }
+    ensures left { result.stream ≡ stream }
+    ensures taken { result.taken ≡ taken }
+    ensures told { F.post tell (last_end stream) result.answer }
 {
-    let next = last_end(stream);
     Given {
         stream,
-        taken: 0,
-        answer: Answer::Closed { next },
-    }
-}
-
-#[tactic(auto, unfolding(crate::specs::Calls::last_end))]
-pub(crate) fn refuse_part(stream: Stream) -> Given
-    ensures { Refuses (closed stream) 0 "TooLong" result }
-{
-    let next = last_end(stream);
-    Given {
-        stream: close(stream),
-        taken: 0,
-        answer: Answer::TooLong { next },
-    }
-}
-
-#[tactic(auto, unfolding(crate::specs::Calls::last_end))]
-pub(crate) fn refuse_lexeme(stream: Stream, taken: usize) -> Given
-    ensures { Refuses (closed stream) taken "LexemeTooLong" result }
-{
-    let next = last_end(stream);
-    Given {
-        stream: close(stream),
         taken,
-        answer: Answer::LexemeTooLong { next },
+        answer: tell(last_end(stream)),
     }
 }
 
@@ -125,9 +86,8 @@ pub(crate) fn answer(stream: Stream, row: &[u8], taken: usize) -> Given
     requires { stream.held ≤ length row.now }
     ensures { Answers stream (take stream.held row.now) taken result }
 {
-    let profile = stream.profile;
     let last = last_end(stream);
-    match lex_held(row, stream.held, profile) {
+    match lex_held(row, stream.held, stream.profile) {
         Lexed::Token {
             kind,
             start,
@@ -176,6 +136,5 @@ fn lex_held(row: &[u8], held: usize, profile: Profile) -> Lexed
     requires { held ≤ length row.now }
     ensures { LexesUnder profile (take held row.now) 0 result }
 {
-    let front: usize = 0;
-    next(&row[front..held], Cursor { at: 0 }, profile)
+    next(&row[..held], Cursor { at: 0 }, profile)
 }

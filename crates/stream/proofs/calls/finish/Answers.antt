@@ -1,12 +1,17 @@
 -- `stream::calls::finish` meets its contract. Assumes nothing.
-use mathlib.Core.Path.{sym, ◌∙◌}
-use Rattle.stream.proofs.CallLaws.{finished-closed, ended-inside, finished-lexed}
+use mathlib.Core.Path.{◌≡◌, refl, ap}
+use Rattle.stream.proofs.CallLaws.{finished-closed, ended-inside, finished-lexed, not-closed, refuses}
+use Rattle.std.proofs.Common.{rules}
+use Rattle.stream.specs.Calls.{is_closed, last_end}
+use Rattle.stream.specs.declared.stream.Answer.TheVariants.{Closed}
 use Rattle.stream.proofs.calls.finish.Goals as goal
 
-pub returns-then-is_closed : goal.returns-then-is_closed
-returns-then-is_closed c =
+pub returns-in-Closed : goal.returns-in-Closed
+returns-in-Closed c =
     let a = c.args in
-    finished-closed a.stream a.row.now _ (sym c.is_closed.ensures ∙ c.if-is_closed.true) c.refuse_closed.ensures
+    let told : c.refuse.result.answer ≡ Closed (last_end a.stream) = search rules in
+    finished-closed a.stream a.row.now _ (ap is_closed c.in-Closed.is)
+    (refuses _ _ "Closed" _ _ refl c.refuse.ensures.left c.refuse.ensures.taken told)
 
 pub answer-requires : goal.answer-requires
 answer-requires c =
@@ -18,5 +23,5 @@ pub returns : goal.returns
 returns c =
     let a = c.args in
     let (long, row) = c.bring-held.ensures in
-    let still = sym c.is_closed.ensures ∙ c.if-is_closed.false in
+    let still = not-closed _ c.in_default.not-Closed in
     finished-lexed a.stream a.row.now _ _ _ long row c.end.ensures _ still c.answer.ensures
