@@ -8,21 +8,21 @@ use lib.Dec.{leb}
 use lib.ListN.{length, take, drop}
 use lib.Seq.{take_at}
 use Rattle.keywords.proofs.Logic.{split}
-use Rattle.buffers.specs.declared.written.Written.{Written}
-use Rattle.buffers.specs.declared.written.Written.TheVariants.{Length, NoRoom}
+use Rattle.std.specs.Prelude.{Result, Ok, Err}
+use Rattle.buffers.specs.declared.written.NoRoom.{NoRoom}
 use Rattle.buffers.specs.Buffers.{Said, filled, refused_as, said_of, before, Fills}
 
 pub fills-unique : {v old new new' : List ℕ} {a b : Said} → Fills v old a new → Fills v old b new' → (a ≡ b) × (new ≡ new')
 fills-unique f g = (f.answers ∙ sym g.answers, f.holds ∙ sym g.holds)
 
 -- two answers that say the same are the same
-pub written_same : (r q : Written) → said_of r ≡ said_of q → r ≡ q
-written_same (Length n) (Length m) e = let f : n ≡ m = cc in ap Length f
-written_same (Length n) NoRoom e = absurd (let z : ◌≡◌ {A = ℕ} 0 1 = cc in omega arith)
-written_same NoRoom (Length m) e = absurd (let z : ◌≡◌ {A = ℕ} 0 1 = cc in omega arith)
-written_same NoRoom NoRoom e = refl
+pub written_same : (r q : Result ℕ NoRoom) → said_of r ≡ said_of q → r ≡ q
+written_same (Ok n) (Ok m) e = let f : n ≡ m = cc in ap Ok f
+written_same (Ok n) (Err q) e = absurd (let z : ◌≡◌ {A = ℕ} 0 1 = cc in omega arith)
+written_same (Err r) (Ok m) e = absurd (let z : ◌≡◌ {A = ℕ} 0 1 = cc in omega arith)
+written_same (Err r) (Err q) e = refl
 
-pub written-unique : {v old new new' : List ℕ} (r q : Written) → Fills v old (said_of r) new → Fills v old (said_of q) new' → (r ≡ q) × (new ≡ new')
+pub written-unique : {v old new new' : List ℕ} (r q : Result ℕ NoRoom) → Fills v old (said_of r) new → Fills v old (said_of q) new' → (r ≡ q) × (new ≡ new')
 written-unique r q f g = let u = fills-unique f g in (written_same r q u.0, u.1)
 
 -- the first n bytes of the buffer are the result

@@ -1,8 +1,7 @@
 -- What the calls that read and write literals say, and a result in a lent buffer. Assumes nothing.
-use Rattle.std.specs.Prelude.{ℕ, ◌≡◌, cond, List, ◌++◌, leb, ℤ, length, drop}
+use Rattle.std.specs.Prelude.{ℕ, ◌≡◌, cond, List, ◌++◌, leb, ℤ, length, drop, Result, Ok, Err}
 use Prim.Native.String.{String}
-use Rattle.buffers.specs.declared.written.Written.{Written}
-use Rattle.buffers.specs.declared.written.Written.TheVariants.{Length, NoRoom}
+use Rattle.buffers.specs.declared.written.NoRoom.{NoRoom}
 use Rattle.buffers.specs.Refusals.{literal_refusal}
 
 -- an integer, so many bytes at the buffer's front, or a refusal by its number
@@ -15,9 +14,9 @@ abbrev pub refused_as : String → Said
 refused_as name = refused (literal_refusal name)
 
 -- what a call that writes answers
-abbrev pub said_of : Written → Said
-said_of (Length n) = filled n
-said_of NoRoom = refused_as "NoRoom"
+abbrev pub said_of : Result ℕ NoRoom → Said
+said_of (Ok n) = filled n
+said_of (Err e) = refused_as "NoRoom"
 
 -- bytes at the front of the buffer; the bytes behind them stay
 abbrev pub before : List ℕ → List ℕ → List ℕ

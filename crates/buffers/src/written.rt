@@ -1,8 +1,5 @@
-// What a call that writes a literal answers.
+// What a call that writes a literal answers where it writes none.
 
-// Length: so many bytes stand at the buffer's front. NoRoom: the result is longer than the buffer, which is untouched.
-#[derive(Clone, Copy)]
-pub enum Written {
-    Length(usize),
-    NoRoom,
-}
+// The result is longer than the buffer, which is untouched. Where it fits, the answer is how many bytes stand at the buffer's front.
+#[derive(Clone, Copy, PartialEq, Eq, Debug)]
+pub struct NoRoom;
