@@ -1,5 +1,5 @@
 -- A span of a text that is a token, and what the calls that read one owe. Assumes nothing.
-use Rattle.std.specs.Prelude.{ℕ, ◌+◌, ◌≡◌, Bool, true, List, ◌⊎◌, get_or, take, drop}
+use Rattle.std.specs.Prelude.{ℕ, ◌+◌, ◌≡◌, Bool, true, List, ◌⊎◌, get_or, take, drop, Option, Some, None, Result, Ok, Err}
 use Rattle.keywords.specs.Kinds.{kind}
 use Rattle.grammar.specs.Form.{one_of, holds}
 use Rattle.grammar.specs.Classes.{by}
@@ -7,10 +7,8 @@ use Rattle.grammar.specs.declared.profile.Profile.{Profile}
 use Rattle.grammar.specs.Answers.{token}
 use Rattle.grammar.specs.Longest.{source, Next}
 use Rattle.buffers.specs.Buffers.{Said, refused_as, filled, Fills}
-use Rattle.spans.specs.declared.span.Found.{Found}
-use Rattle.spans.specs.declared.span.Found.TheVariants.{Whole, Other}
-use Rattle.spans.specs.declared.answers.BytesRead.{BytesRead}
-use Rattle.spans.specs.declared.answers.BytesRead.TheVariants.{Length, NotThatLiteral, NoRoom}
+use Rattle.spans.specs.declared.answers.ReadError.{ReadError}
+use Rattle.spans.specs.declared.answers.ReadError.TheVariants.{NotThatLiteral, NoRoom}
 
 -- the span's bytes
 abbrev pub span : List ℕ → ℕ → ℕ → List ℕ
@@ -31,9 +29,9 @@ unfoldable pub IsName : Profile → List ℕ → ℕ → ℕ → Type 0
 IsName p s start n = IsToken p s start n (kind "TK_ID") × (is_quote p (get_or s start 0) ≡ true)
 
 -- which of the two a search says
-abbrev pub Finds : Profile → List ℕ → ℕ → ℕ → ℕ → Found → Type 0
-Finds p s start n k (Whole digits) = IsTokenWith p s start n k digits
-Finds p s start n k Other = IsToken p s start n k → ⊥
+abbrev pub Finds : Profile → List ℕ → ℕ → ℕ → ℕ → Option ℕ → Type 0
+Finds p s start n k (Some digits) = IsTokenWith p s start n k digits
+Finds p s start n k None = IsToken p s start n k → ⊥
 
 -- the span is not that literal, or it is, and this is its value
 abbrev pub Reads : Type 0 → Said → Said → Type 0
@@ -44,7 +42,7 @@ abbrev pub ReadsBytes : Type 0 → List ℕ → List ℕ → Said → List ℕ �
 ReadsBytes That v old said new = ((That → ⊥) × (said ≡ refused_as "NotThatLiteral") × (new ≡ old)) ⊎ (That × Fills v old said new)
 
 -- what a call that reads bytes answers
-abbrev pub said_of : BytesRead → Said
-said_of (Length n) = filled n
-said_of NotThatLiteral = refused_as "NotThatLiteral"
-said_of NoRoom = refused_as "NoRoom"
+abbrev pub said_of : Result ℕ ReadError → Said
+said_of (Ok n) = filled n
+said_of (Err NotThatLiteral) = refused_as "NotThatLiteral"
+said_of (Err NoRoom) = refused_as "NoRoom"

@@ -1,23 +1,20 @@
-// What a call that reads bytes into a lent buffer answers.
+// Why a call that reads bytes into a lent buffer reads none.
 ghost use Rattle.std.specs.Prelude.{◌≡◌};
-ghost use Rattle.buffers.specs.Buffers as Buffers;
-ghost use Rattle.spans.specs.Spans.{said_of};
+ghost use Rattle.spans.specs.declared.answers.ReadError.{ReadError};
 
-use buffers::written::Written;
+use buffers::written::NoRoom;
 
-// Length: so many bytes stand at the buffer's front. With either refusal the buffer is untouched.
-#[derive(Clone, Copy)]
-pub enum BytesRead {
-    Length(usize),
+// The span is not that literal, or its bytes are more than the buffer holds. With either the buffer is untouched.
+#[derive(Clone, Copy, PartialEq, Eq, Debug)]
+pub enum ReadError {
     NotThatLiteral,
     NoRoom,
 }
 
-pub fn read_of(bytes: Written) -> BytesRead
-    ensures { said_of result ≡ Buffers.said_of bytes }
-{
-    match bytes {
-        Written::Length(n) => BytesRead::Length(n),
-        Written::NoRoom => BytesRead::NoRoom,
+impl From<NoRoom> for ReadError {
+    ghost from_gives = { λ _ e. e ≡ ReadError.NoRoom };
+
+    fn from(_e: NoRoom) -> ReadError {
+        ReadError::NoRoom
     }
 }
