@@ -24,23 +24,15 @@ use Rattle.buffers.specs.Buffers.{Said}
 use Rattle.spans.specs.Spans.{span, IsTokenWith}
 use Rattle.spans.proofs.TokenLaws.{some-digits, integer-form, integer-sum}
 use Rattle.spans.proofs.ReadingLaws.{part-is}
-use Rattle.integers.specs.declared.reading.IntegerRead.{IntegerRead}
+use Rattle.std.specs.Prelude.{Result}
+use lib.IntN.{ℤ}
+use Rattle.integers.specs.declared.reading.IntegerError.{IntegerError}
 use Rattle.integers.specs.Numbers.{value}
 use Rattle.integers.specs.Integers.{up_to, integer_of}
 use Rattle.integers.specs.Calls.{said_of, ReadsInteger}
 use Rattle.integers.proofs.NumberLaws.{Worthy, value-most}
 
--- `0x` or `0X`, by its bytes
-pub hex-at : (w : List ℕ) → 2 ≤ length w → is_hex w ≡ is "0" (get_or w 0 0) && (is "x" (get_or w 1 0) || is "X" (get_or w 1 0))
-hex-at [] h = absurd (omega arith)
-hex-at (a ∷ []) h = absurd (omega arith)
-hex-at (a ∷ b ∷ w) h = refl
-
-pub short-no-hex : (w : List ℕ) → length w < 2 → is_hex w ≡ false
-short-no-hex [] h = refl
-short-no-hex (a ∷ []) h = refl
-short-no-hex (a ∷ b ∷ w) h = absurd (omega arith)
-
+-- what begins with `0x` has two bytes
 pub hex-long : (w : List ℕ) → is_hex w ≡ true → 2 ≤ length w
 hex-long [] e = absurd (true≢false (sym e))
 hex-long (a ∷ []) e = absurd (true≢false (sym e))
@@ -139,7 +131,7 @@ number_fits p s start n d h =
     subst (λ (w : List ℕ). Fit w d) (sym (part-is s start n))
     (integer-fits (span s start n) d (integer-form p s start n (some-digits p s start n (kind "TK_INTEGER") d h)) (integer-sum p s start n d h))
 
-pub part-read : (p : Profile) (s : List ℕ) (start n d : ℕ) → IsTokenWith p s start n (kind "TK_INTEGER") d → (r : IntegerRead)
+pub part-read : (p : Profile) (s : List ℕ) (start n d : ℕ) → IsTokenWith p s start n (kind "TK_INTEGER") d → (r : Result ℤ IntegerError)
     → said_of r ≡ integer_of (take (start + n - start) (drop start s)) → ReadsInteger p s start n r
 unfolding ReadsInteger
 part-read p s start n d h r e = inr (some-digits p s start n (kind "TK_INTEGER") d h, e ∙ ap integer_of (part-is s start n))

@@ -16,12 +16,13 @@ use Rattle.hexdigits.specs.Digits.{worth, digit}
 use Rattle.hexdigits.proofs.DigitLaws.{is_capital, worth-decimal, digit-least}
 use Rattle.grammar.specs.declared.profile.Profile.{Profile}
 use Rattle.grammar.specs.Answers.{is_hex}
-use Rattle.buffers.specs.declared.written.Written.{Written}
+use Rattle.std.specs.Prelude.{Result, Ok, Err}
+use Rattle.buffers.specs.declared.written.NoRoom.{NoRoom}
 use Rattle.buffers.specs.Buffers.{valued}
 use Rattle.buffers.proofs.Theorems as Buffers
 use Rattle.spans.proofs.Theorems.{reads-unique}
-use Rattle.integers.specs.declared.reading.IntegerRead.{IntegerRead}
-use Rattle.integers.specs.declared.reading.IntegerRead.TheVariants.{Value, NotThatLiteral, OutOfRange}
+use Rattle.integers.specs.declared.reading.IntegerError.{IntegerError}
+use Rattle.integers.specs.declared.reading.IntegerError.TheVariants.{NotThatLiteral, OutOfRange}
 use Rattle.integers.specs.Numbers.{value, padded, width}
 use Rattle.integers.specs.Integers.{bits_of, up_to, integer_of, decimal, hexadecimal, integer_literal}
 use Rattle.integers.specs.Calls.{said_of, ReadsInteger, WritesInteger}
@@ -31,22 +32,22 @@ use Rattle.integers.proofs.WritingLaws.{padded-every}
 use Rattle.integers.proofs.RoundLaws.{value-padded, width-bound, plain-hexadecimal, padded-value, one_again, more-again}
 
 -- two answers that say the same are the same
-read_same : (r q : IntegerRead) → said_of r ≡ said_of q → r ≡ q
-read_same (Value v) (Value z) e = let f : v ≡ z = cc in ap Value f
-read_same (Value v) NotThatLiteral e = absurd (let z : ◌≡◌ {A = ℕ} 0 1 = cc in omega arith)
-read_same (Value v) OutOfRange e = absurd (let z : ◌≡◌ {A = ℕ} 0 1 = cc in omega arith)
-read_same NotThatLiteral (Value v) e = absurd (let z : ◌≡◌ {A = ℕ} 0 1 = cc in omega arith)
-read_same NotThatLiteral NotThatLiteral e = refl
-read_same NotThatLiteral OutOfRange e = absurd (let z : ◌≡◌ {A = ℕ} 11 12 = cc in omega arith)
-read_same OutOfRange (Value v) e = absurd (let z : ◌≡◌ {A = ℕ} 0 1 = cc in omega arith)
-read_same OutOfRange NotThatLiteral e = absurd (let z : ◌≡◌ {A = ℕ} 12 11 = cc in omega arith)
-read_same OutOfRange OutOfRange e = refl
+read_same : (r q : Result ℤ IntegerError) → said_of r ≡ said_of q → r ≡ q
+read_same (Ok v) (Ok z) e = let f : v ≡ z = cc in ap Ok f
+read_same (Ok v) (Err NotThatLiteral) e = absurd (let z : ◌≡◌ {A = ℕ} 0 1 = cc in omega arith)
+read_same (Ok v) (Err OutOfRange) e = absurd (let z : ◌≡◌ {A = ℕ} 0 1 = cc in omega arith)
+read_same (Err NotThatLiteral) (Ok v) e = absurd (let z : ◌≡◌ {A = ℕ} 0 1 = cc in omega arith)
+read_same (Err NotThatLiteral) (Err NotThatLiteral) e = refl
+read_same (Err NotThatLiteral) (Err OutOfRange) e = absurd (let z : ◌≡◌ {A = ℕ} 11 12 = cc in omega arith)
+read_same (Err OutOfRange) (Ok v) e = absurd (let z : ◌≡◌ {A = ℕ} 0 1 = cc in omega arith)
+read_same (Err OutOfRange) (Err NotThatLiteral) e = absurd (let z : ◌≡◌ {A = ℕ} 12 11 = cc in omega arith)
+read_same (Err OutOfRange) (Err OutOfRange) e = refl
 
-pub read-unique : (p : Profile) (s : List ℕ) (start n : ℕ) (r q : IntegerRead) → ReadsInteger p s start n r → ReadsInteger p s start n q → r ≡ q
+pub read-unique : (p : Profile) (s : List ℕ) (start n : ℕ) (r q : Result ℤ IntegerError) → ReadsInteger p s start n r → ReadsInteger p s start n q → r ≡ q
 unfolding ReadsInteger
 read-unique p s start n r q f g = read_same r q (reads-unique f g)
 
-pub written-unique : (v : ℤ) (old new new' : List ℕ) (r q : Written) → WritesInteger v old r new → WritesInteger v old q new' → (r ≡ q) × (new ≡ new')
+pub written-unique : (v : ℤ) (old new new' : List ℕ) (r q : Result ℕ NoRoom) → WritesInteger v old r new → WritesInteger v old q new' → (r ≡ q) × (new ≡ new')
 unfolding WritesInteger
 written-unique v old new new' r q f g = Buffers.written-unique r q f g
 

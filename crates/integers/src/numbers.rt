@@ -4,7 +4,7 @@ ghost use Rattle.integers.specs.Numbers.{value};
 ghost use Rattle.integers.specs.Integers.{signed, up_to};
 ghost use Rattle.integers.specs.Calls.{said_of};
 
-use crate::reading::IntegerRead;
+use crate::reading::IntegerError;
 use hexdigits::digits::worth;
 
 // One that is known to fit in 64 bits: no digit is tested.
@@ -26,7 +26,12 @@ pub(crate) fn small_number(bytes: &[u8], base: u64) -> u64
 }
 
 // Any, up to a limit: most * base + last, told so that nothing is divided. (No byte stands for more than 15.)
-pub(crate) fn number_up_to(bytes: &[u8], base: u64, most: u64, last: u64) -> IntegerRead
+pub(crate) fn number_up_to(
+    bytes: &[u8],
+    base: u64,
+    most: u64,
+    last: u64,
+) -> Result<i64, IntegerError>
     requires { (last < base) × (15 ≤ base + last) × (most * base + last < 2 ^ 64) }
     ensures { said_of result ≡ up_to (most * base + last) (value base bytes.now) }
 {
@@ -38,17 +43,17 @@ pub(crate) fn number_up_to(bytes: &[u8], base: u64, most: u64, last: u64) -> Int
         if b != b'_' {
             let d = worth(b) as u64;
             if most < n {
-                return IntegerRead::OutOfRange;
+                return Err(IntegerError::OutOfRange);
             }
             if n == most {
                 if last < d {
-                    return IntegerRead::OutOfRange;
+                    return Err(IntegerError::OutOfRange);
                 }
             }
             n = n * base + d;
         }
     }
-    IntegerRead::Value(signed(n))
+    Ok(signed(n))
 }
 
 // 64 bits taken as two's complement.

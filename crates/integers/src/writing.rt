@@ -5,10 +5,10 @@ ghost use Rattle.integers.specs.Numbers.{width, padded};
 ghost use Rattle.integers.specs.Integers.{bits_of, decimal, hexadecimal};
 ghost use Rattle.integers.specs.Calls.{WritesInteger};
 
-use buffers::written::Written;
+use buffers::written::NoRoom;
 use hexdigits::digits::digit;
 
-pub fn write_integer(value: i64, buffer: &mut [u8]) -> Written
+pub fn write_integer(value: i64, buffer: &mut [u8]) -> Result<usize, NoRoom>
     ensures { WritesInteger value buffer.old result buffer.new }
 {
     if value < 0 {
@@ -27,15 +27,15 @@ fn bits_of(value: i64) -> u64
     value as u64
 }
 
-fn write_decimal(n: u64, buffer: &mut [u8]) -> Written
+fn write_decimal(n: u64, buffer: &mut [u8]) -> Result<usize, NoRoom>
     ensures { Fills (decimal n) buffer.old (said_of result) buffer.new }
 {
     let count = decimal_width(n);
     if buffer.len() < count {
-        return Written::NoRoom;
+        return Err(NoRoom);
     }
     put_decimal(buffer, count, n);
-    Written::Length(count)
+    Ok(count)
 }
 
 fn decimal_width(n: u64) -> usize
@@ -75,14 +75,14 @@ fn put_decimal(buffer: &mut [u8], count: usize, n: u64)
     }
 }
 
-fn write_hexadecimal(bits: u64, buffer: &mut [u8]) -> Written
+fn write_hexadecimal(bits: u64, buffer: &mut [u8]) -> Result<usize, NoRoom>
     ensures { Fills (hexadecimal bits) buffer.old (said_of result) buffer.new }
 {
     if buffer.len() < 18 {
-        return Written::NoRoom;
+        return Err(NoRoom);
     }
     put_hexadecimal(buffer, bits);
-    Written::Length(18)
+    Ok(18)
 }
 
 // `0x` and sixteen digits, the last one first.
