@@ -8,9 +8,10 @@ use lib.ListN.{get_or}
 use borrow.Author.Tests.{ne_eqb}
 use Rattle.keywords.specs.Kinds.{kind}
 use Rattle.grammar.specs.declared.profile.Profile.{Profile}
-use Rattle.buffers.specs.declared.written.Written.{Written}
+use Rattle.std.specs.Prelude.{Result}
+use Rattle.buffers.specs.declared.written.NoRoom.{NoRoom}
 use Rattle.buffers.proofs.Theorems.{written-unique}
-use Rattle.spans.specs.declared.answers.BytesRead.{BytesRead}
+use Rattle.spans.specs.declared.answers.ReadError.{ReadError}
 use Rattle.spans.specs.Spans.{IsToken, IsName, span}
 use Rattle.spans.proofs.Theorems.{bytes-unique}
 use Rattle.strings.specs.Quotes.{unquoted, doubled, quoted}
@@ -19,7 +20,7 @@ use Rattle.strings.proofs.QuoteLaws.{unquoted-between, undoubled-doubled}
 use Rattle.strings.proofs.LexemeLaws as Lexemes
 
 -- one answer, one buffer
-module _ (p : Profile) (s : List ℕ) (start n : ℕ) (old new new' : List ℕ) (r q : BytesRead) where
+module _ (p : Profile) (s : List ℕ) (start n : ℕ) (old new new' : List ℕ) (r q : Result ℕ ReadError) where
   pub read-string-unique : ReadsString p s start n old r new → ReadsString p s start n old q new' → (r ≡ q) × (new ≡ new')
   unfolding ReadsString
   read-string-unique f g = bytes-unique r q f g
@@ -28,7 +29,7 @@ module _ (p : Profile) (s : List ℕ) (start n : ℕ) (old new new' : List ℕ) 
   unfolding ReadsName
   read-name-unique f g = bytes-unique r q f g
 
-module _ (v old new new' : List ℕ) (r q : Written) where
+module _ (v old new new' : List ℕ) (r q : Result ℕ NoRoom) where
   pub write-string-unique : WritesString v old r new → WritesString v old q new' → (r ≡ q) × (new ≡ new')
   unfolding WritesString
   write-string-unique f g = written-unique r q f g

@@ -10,8 +10,8 @@ ghost use Rattle.strings.specs.Closing.{closing_of, IsQuoted};
 use crate::width::width;
 use grammar::profile::Profile;
 use keywords::kinds::{TK_ID, TK_STRING};
-use spans::answers::BytesRead;
-use spans::span::{Found, find};
+use spans::answers::ReadError;
+use spans::span::find;
 
 pub fn read_string(
     text: &[u8],
@@ -19,12 +19,10 @@ pub fn read_string(
     length: usize,
     profile: Profile,
     buffer: &mut [u8],
-) -> BytesRead
+) -> Result<usize, ReadError>
     ensures { ReadsString profile text.now start length buffer.old result buffer.new }
 {
-    let Found::Whole { digits: _ } = find(text, start, length, TK_STRING, profile) else {
-        return BytesRead::NotThatLiteral;
-    };
+    find(text, start, length, TK_STRING, profile).ok_or(ReadError::NotThatLiteral)?;
     unquote(text, start, length, buffer)
 }
 
@@ -35,14 +33,12 @@ pub fn read_name(
     length: usize,
     profile: Profile,
     buffer: &mut [u8],
-) -> BytesRead
+) -> Result<usize, ReadError>
     ensures { ReadsName profile text.now start length buffer.old result buffer.new }
 {
-    let Found::Whole { digits: _ } = find(text, start, length, TK_ID, profile) else {
-        return BytesRead::NotThatLiteral;
-    };
+    find(text, start, length, TK_ID, profile).ok_or(ReadError::NotThatLiteral)?;
     if !is_quote(text[start], profile) {
-        return BytesRead::NotThatLiteral;
+        return Err(ReadError::NotThatLiteral);
     }
     unquote(text, start, length, buffer)
 }
@@ -52,24 +48,14 @@ fn is_quote(b: u8, profile: Profile) -> bool
     ensures { result ≡ is_quote profile b }
 {
     match b {
-        b'"' => true,
-        b'`' => true,
-        b'[' => has_brackets(profile),
+        b'"' | b'`' => true,
+        b'[' => matches!(profile, Profile::Sqlite),
         _ => false,
     }
 }
 
-fn has_brackets(profile: Profile) -> bool
-    ensures { result ≡ by profile false true }
-{
-    match profile {
-        Profile::Turso => false,
-        Profile::Sqlite => true,
-    }
-}
-
 // In a name between brackets the closing one stands nowhere, so that nothing is doubled.
-fn unquote(text: &[u8], start: usize, n: usize, buffer: &mut [u8]) -> BytesRead
+fn unquote(text: &[u8], start: usize, n: usize, buffer: &mut [u8]) -> Result<usize, ReadError>
     requires { IsQuoted text.now start n }
     ensures { Fills (unquoted (span text.now start n)) buffer.old (said_of result) buffer.new }
 {
@@ -81,22 +67,17 @@ fn unquote(text: &[u8], start: usize, n: usize, buffer: &mut [u8]) -> BytesRead
 fn closing(b: u8) -> u8
     ensures { result ≡ closing_of b }
 {
-    if b == b'[' {
-        return b']';
-    }
-    b
+    if b == b'[' { b']' } else { b }
 }
 
 // The bytes are counted only where the buffer might be too short: they are never more than the body's.
-fn undouble(body: &[u8], quote: u8, buffer: &mut [u8]) -> BytesRead
+fn undouble(body: &[u8], quote: u8, buffer: &mut [u8]) -> Result<usize, ReadError>
     ensures { Fills (undoubled quote false body.now) buffer.old (said_of result) buffer.new }
 {
-    if buffer.len() < body.len() {
-        if buffer.len() < undoubled_length(body, quote) {
-            return BytesRead::NoRoom;
-        }
+    if buffer.len() < body.len() && buffer.len() < undoubled_length(body, quote) {
+        return Err(ReadError::NoRoom);
     }
-    BytesRead::Length(put_undoubled(body, quote, buffer))
+    Ok(put_undoubled(body, quote, buffer))
 }
 
 fn undoubled_length(body: &[u8], quote: u8) -> usize

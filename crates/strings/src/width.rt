@@ -5,8 +5,5 @@ ghost use Rattle.std.specs.Prelude.{◌≡◌, cond, eqb};
 pub(crate) fn width(b: u8, quote: u8) -> usize
     ensures { result ≡ cond (eqb b quote) 2 1 }
 {
-    if b == quote {
-        return 2;
-    }
-    1
+    if b == quote { 2 } else { 1 }
 }

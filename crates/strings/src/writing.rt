@@ -5,32 +5,32 @@ ghost use Rattle.strings.specs.Quotes.{doubled, quoted};
 ghost use Rattle.strings.specs.Calls.{WritesString, WritesName};
 
 use crate::width::width;
-use buffers::written::Written;
+use buffers::written::NoRoom;
 
-pub fn write_string(bytes: &[u8], buffer: &mut [u8]) -> Written
+pub fn write_string(bytes: &[u8], buffer: &mut [u8]) -> Result<usize, NoRoom>
     ensures { WritesString bytes.now buffer.old result buffer.new }
 {
     write_quoted(bytes, b'\'', buffer)
 }
 
-pub fn write_name(bytes: &[u8], buffer: &mut [u8]) -> Written
+pub fn write_name(bytes: &[u8], buffer: &mut [u8]) -> Result<usize, NoRoom>
     ensures { WritesName bytes.now buffer.old result buffer.new }
 {
     write_quoted(bytes, b'"', buffer)
 }
 
-fn write_quoted(bytes: &[u8], quote: u8, buffer: &mut [u8]) -> Written
+fn write_quoted(bytes: &[u8], quote: u8, buffer: &mut [u8]) -> Result<usize, NoRoom>
     ensures { Fills (quoted quote bytes.now) buffer.old (said_of result) buffer.new }
 {
     if buffer.len() < 2 {
-        return Written::NoRoom;
+        return Err(NoRoom);
     }
     let n = doubled_length(bytes, quote);
     if buffer.len() - 2 < n {
-        return Written::NoRoom;
+        return Err(NoRoom);
     }
     put_quoted(bytes, quote, buffer);
-    Written::Length(n + 2)
+    Ok(n + 2)
 }
 
 fn doubled_length(bytes: &[u8], quote: u8) -> usize
