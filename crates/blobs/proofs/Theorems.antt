@@ -7,9 +7,10 @@ use mathlib.Core.List.{List}
 use lib.Pow.{are_bytes}
 use Rattle.keywords.specs.Kinds.{kind}
 use Rattle.grammar.specs.declared.profile.Profile.{Profile}
-use Rattle.buffers.specs.declared.written.Written.{Written}
+use Rattle.std.specs.Prelude.{Result}
+use Rattle.buffers.specs.declared.written.NoRoom.{NoRoom}
 use Rattle.buffers.proofs.Theorems.{written-unique}
-use Rattle.spans.specs.declared.answers.BytesRead.{BytesRead}
+use Rattle.spans.specs.declared.answers.ReadError.{ReadError}
 use Rattle.spans.specs.Spans.{IsToken, span}
 use Rattle.spans.proofs.Theorems.{bytes-unique}
 use Rattle.blobs.specs.Blobs.{blob_bytes, hexed, blob_literal}
@@ -19,12 +20,12 @@ use Rattle.blobs.proofs.LexemeLaws as Lexemes
 use Rattle.blobs.proofs.LexemeLaws.{as_written}
 
 -- one answer, one buffer
-pub read-blob-unique : (p : Profile) (s : List ℕ) (start n : ℕ) (old new new' : List ℕ) (r q : BytesRead)
+pub read-blob-unique : (p : Profile) (s : List ℕ) (start n : ℕ) (old new new' : List ℕ) (r q : Result ℕ ReadError)
     → ReadsBlob p s start n old r new → ReadsBlob p s start n old q new' → (r ≡ q) × (new ≡ new')
 unfolding ReadsBlob
 read-blob-unique p s start n old new new' r q f g = bytes-unique r q f g
 
-pub write-blob-unique : (v old new new' : List ℕ) (r q : Written) → WritesBlob v old r new → WritesBlob v old q new' → (r ≡ q) × (new ≡ new')
+pub write-blob-unique : (v old new new' : List ℕ) (r q : Result ℕ NoRoom) → WritesBlob v old r new → WritesBlob v old q new' → (r ≡ q) × (new ≡ new')
 unfolding WritesBlob
 write-blob-unique v old new new' r q f g = written-unique r q f g
 

@@ -9,8 +9,8 @@ ghost use Rattle.blobs.specs.Calls.{ReadsBlob};
 use grammar::profile::Profile;
 use hexdigits::digits::worth;
 use keywords::kinds::TK_BLOB;
-use spans::answers::BytesRead;
-use spans::span::{Found, find};
+use spans::answers::ReadError;
+use spans::span::find;
 
 pub fn read_blob(
     text: &[u8],
@@ -18,27 +18,25 @@ pub fn read_blob(
     length: usize,
     profile: Profile,
     buffer: &mut [u8],
-) -> BytesRead
+) -> Result<usize, ReadError>
     ensures { ReadsBlob profile text.now start length buffer.old result buffer.new }
 {
-    let Found::Whole { digits: _ } = find(text, start, length, TK_BLOB, profile) else {
-        return BytesRead::NotThatLiteral;
-    };
+    find(text, start, length, TK_BLOB, profile).ok_or(ReadError::NotThatLiteral)?;
     let from = start + 2;
     let to = start + length - 1;
     unhex(&text[from..to], buffer)
 }
 
 // The bytes that pairs of digits stand for.
-fn unhex(digits: &[u8], buffer: &mut [u8]) -> BytesRead
+fn unhex(digits: &[u8], buffer: &mut [u8]) -> Result<usize, ReadError>
     ensures { Fills (pairs digits.now) buffer.old (said_of result) buffer.new }
 {
     let n = digits.len() / 2;
     if buffer.len() < n {
-        return BytesRead::NoRoom;
+        return Err(ReadError::NoRoom);
     }
     put_pairs(digits, buffer);
-    BytesRead::Length(n)
+    Ok(n)
 }
 
 fn put_pairs(digits: &[u8], buffer: &mut [u8])

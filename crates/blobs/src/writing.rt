@@ -4,23 +4,23 @@ ghost use Rattle.buffers.specs.Buffers.{before};
 ghost use Rattle.blobs.specs.Blobs.{blob_literal};
 ghost use Rattle.blobs.specs.Calls.{WritesBlob};
 
-use buffers::written::Written;
+use buffers::written::NoRoom;
 use hexdigits::digits::digit;
 
 // The room is halved, since twice the number of bytes might not be a number of 64 bits.
-pub fn write_blob(bytes: &[u8], buffer: &mut [u8]) -> Written
+pub fn write_blob(bytes: &[u8], buffer: &mut [u8]) -> Result<usize, NoRoom>
     ensures { WritesBlob bytes.now buffer.old result buffer.new }
 {
     let room = buffer.len();
     let n = bytes.len();
     if room < 3 {
-        return Written::NoRoom;
+        return Err(NoRoom);
     }
     if (room - 3) / 2 < n {
-        return Written::NoRoom;
+        return Err(NoRoom);
     }
     put_blob(bytes, buffer);
-    Written::Length(n * 2 + 3)
+    Ok(n * 2 + 3)
 }
 
 fn put_blob(bytes: &[u8], buffer: &mut [u8])
