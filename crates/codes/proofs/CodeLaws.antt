@@ -2,9 +2,8 @@
 use Prim.Native.Nat.{ℕ, zero, suc, ◌≤◌, ◌<◌}
 use native.Mathlib.Omega.{arith}
 use mathlib.Core.Path.{◌≡◌, refl, subst}
+use Rattle.std.specs.Prelude.{Option, Some, None}
 use Rattle.grammar.specs.declared.profile.Profile.{Profile}
-use Rattle.codes.specs.declared.profiles.Chosen as C
-use Rattle.codes.specs.declared.profiles.Chosen.TheVariants as Chosen
 use Rattle.codes.specs.Profiles.{profile_of, Under}
 
 -- n is none of the first k numbers, as a `match` leaves it for its last arm
@@ -20,19 +19,19 @@ from (suc k) n (h, d) = omega (arith, from k n h, d)
 pub last : (k n : ℕ) → n < suc k → NoneOf n k → k ≡ n
 last k n l h = omega (arith, from k n h)
 
-pub no-profile : (n : ℕ) → NoneOf n 2 → profile_of n ≡ Chosen.Unknown
+pub no-profile : (n : ℕ) → NoneOf n 2 → profile_of n ≡ None
 no-profile zero h = absurd (omega (arith, from 2 0 h))
 no-profile (suc zero) h = absurd (omega (arith, from 2 1 h))
 no-profile (suc (suc n)) h = refl
 
 -- a call under the profile that was chosen, and one where none was
-pub under-known : {c : C.Chosen} {p : Profile} → Chosen.Known p ≡ c → (A : Profile → Type 0) (X : Type 0) → A p → Under c A X
-under-known e A X a = subst (λ (c : C.Chosen). Under c A X) e a
+pub under-known : {c : Option Profile} {p : Profile} → Some p ≡ c → (A : Profile → Type 0) (X : Type 0) → A p → Under c A X
+under-known e A X a = subst (λ (c : Option Profile). Under c A X) e a
 
-pub under-unknown : {c : C.Chosen} → Chosen.Unknown ≡ c → (A : Profile → Type 0) (X : Type 0) → X → Under c A X
-under-unknown e A X x = subst (λ (c : C.Chosen). Under c A X) e x
+pub under-unknown : {c : Option Profile} → None ≡ c → (A : Profile → Type 0) (X : Type 0) → X → Under c A X
+under-unknown e A X x = subst (λ (c : Option Profile). Under c A X) e x
 
 -- two calls under the profile of the same number, or both with a number that is none's
-pub by-profile : (c : C.Chosen) (A B : Profile → Type 0) (X Y R : Type 0) → ((p : Profile) → A p → B p → R) → (X → Y → R) → Under c A X → Under c B Y → R
-by-profile (Chosen.Known p) A B X Y R f g x y = f p x y
-by-profile Chosen.Unknown A B X Y R f g x y = g x y
+pub by-profile : (c : Option Profile) (A B : Profile → Type 0) (X Y R : Type 0) → ((p : Profile) → A p → B p → R) → (X → Y → R) → Under c A X → Under c B Y → R
+by-profile (Some p) A B X Y R f g x y = f p x y
+by-profile None A B X Y R f g x y = g x y

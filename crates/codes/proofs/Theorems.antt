@@ -3,17 +3,17 @@
 use Prim.Native.Nat.{ℕ, zero, suc}
 use native.Mathlib.Omega.{arith}
 use mathlib.Core.Path.{◌≡◌, refl, sym, ◌∙◌, ap}
+use Rattle.std.specs.Prelude.{Some}
 use Rattle.grammar.specs.declared.profile.Profile.{Profile}
 use Rattle.grammar.specs.declared.profile.Profile.TheVariants.{Turso, Sqlite}
-use Rattle.codes.specs.declared.profiles.Chosen.TheVariants as Chosen
 use Rattle.codes.specs.Profiles.{profile_of, profile_number}
 
-pub profile-back : (p : Profile) → profile_of (profile_number p) ≡ Chosen.Known p
+pub profile-back : (p : Profile) → profile_of (profile_number p) ≡ Some p
 profile-back Turso = refl
 profile-back Sqlite = refl
 
 -- and no other number gives it
-pub profile-number : (n : ℕ) (p : Profile) → profile_of n ≡ Chosen.Known p → profile_number p ≡ n
+pub profile-number : (n : ℕ) (p : Profile) → profile_of n ≡ Some p → profile_number p ≡ n
 profile-number zero p e = let d : p ≡ Turso = cc in ap profile_number d
 profile-number (suc zero) p e = let d : p ≡ Sqlite = cc in ap profile_number d
 profile-number (suc (suc n)) p e = let z : ◌≡◌ {A = ℕ} 0 1 = cc in absurd (omega arith)

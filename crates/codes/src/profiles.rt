@@ -4,19 +4,14 @@ ghost use Rattle.codes.specs.Profiles.{profile_of, profile_number};
 
 use grammar::profile::Profile;
 
-#[derive(Clone, Copy)]
-pub enum Chosen {
-    Known(Profile),
-    Unknown,
-}
-
-pub fn profile_of(number: u32) -> Chosen
+// The profile that has this number, if one has.
+pub fn profile_of(number: u32) -> Option<Profile>
     ensures { result ≡ profile_of number }
 {
     match number {
-        0 => Chosen::Known(Profile::Turso),
-        1 => Chosen::Known(Profile::Sqlite),
-        _ => Chosen::Unknown,
+        0 => Some(Profile::Turso),
+        1 => Some(Profile::Sqlite),
+        _ => None,
     }
 }
 
