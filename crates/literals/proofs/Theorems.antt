@@ -20,18 +20,17 @@ use Rattle.keywords.proofs.Logic.{or-false}
 use Rattle.grammar.specs.declared.profile.Profile.{Profile}
 use Rattle.grammar.specs.declared.profile.Profile.TheVariants.{Turso, Sqlite}
 use Rattle.grammar.specs.Form.{one_of}
-use Rattle.buffers.specs.declared.written.Written.TheVariants.{Length}
+use Rattle.std.specs.Prelude.{Result, Ok}
 use Rattle.buffers.specs.Buffers.{Said, Fills}
 use Rattle.buffers.proofs.Theorems.{written-part}
 use Rattle.spans.specs.Spans.{span, is_quote, IsToken, IsName, Reads, ReadsBytes, said_of}
 use Rattle.spans.proofs.TokenLaws.{span-long}
-use Rattle.integers.specs.declared.reading.IntegerRead.{IntegerRead}
-use Rattle.integers.specs.declared.reading.IntegerRead.TheVariants.{Value}
+use Rattle.integers.specs.declared.reading.IntegerError.{IntegerError}
 use Rattle.integers.specs.Integers.{bits_of, integer_of, integer_literal, decimal, hexadecimal}
 use Rattle.integers.specs.Calls.{ReadsInteger, WritesInteger}
 use Rattle.integers.proofs.WritingLaws.{width_some, decimal-long, hexadecimal-long}
 use Rattle.integers.proofs.Theorems as Integers
-use Rattle.spans.specs.declared.answers.BytesRead.{BytesRead}
+use Rattle.spans.specs.declared.answers.ReadError.{ReadError}
 use Rattle.strings.specs.Quotes.{unquoted, quoted}
 use Rattle.strings.specs.Calls.{ReadsString, ReadsName, WritesString, WritesName}
 use Rattle.strings.proofs.QuoteLaws.{quoted-long}
@@ -78,20 +77,20 @@ taken : {That : Type 0} {v old new : List ℕ} {said : Said} → That → ReadsB
 taken t (inl h) = absurd (h.0 t)
 taken t (inr h) = h.1
 
-value-again : (p : Profile) (v : ℤ) → mag v < 2 ^ 63 → ReadsInteger p (integer_literal v) 0 (length (integer_literal v)) (Value v)
+value-again : (p : Profile) (v : ℤ) → mag v < 2 ^ 63 → ReadsInteger p (integer_literal v) 0 (length (integer_literal v)) (Ok v)
 unfolding ReadsInteger
 value-again p v h = inr (integer-written p v, sym (ap integer_of (whole-span (integer_literal v)) ∙ Integers.read_back v h))
 
 -- every 64-bit integer
-pub integers : (p : Profile) (v : ℤ) (old : List ℕ) (n : ℕ) (new : List ℕ) (r : IntegerRead) → mag v < 2 ^ 63 → WritesInteger v old (Length n) new
-    → ReadsInteger p (take n new) 0 n r → r ≡ Value v
+pub integers : (p : Profile) (v : ℤ) (old : List ℕ) (n : ℕ) (new : List ℕ) (r : Result ℤ IntegerError) → mag v < 2 ^ 63 → WritesInteger v old (Ok n) new
+    → ReadsInteger p (take n new) 0 n r → r ≡ Ok v
 unfolding WritesInteger
 integers p v old n new r h w i =
     let l = integer_literal v in
-    Integers.read-unique p l 0 (length l) r (Value v) (is_all (λ x m. ReadsInteger p x 0 m r) (take n new) l n (written-part w) i) (value-again p v h)
+    Integers.read-unique p l 0 (length l) r (Ok v) (is_all (λ x m. ReadsInteger p x 0 m r) (take n new) l n (written-part w) i) (value-again p v h)
 
 -- every list of bytes: it fills the buffer that is lent
-pub strings : (p : Profile) (v old : List ℕ) (n : ℕ) (new lent : List ℕ) (r : BytesRead) (after : List ℕ) → WritesString v old (Length n) new
+pub strings : (p : Profile) (v old : List ℕ) (n : ℕ) (new lent : List ℕ) (r : Result ℕ ReadError) (after : List ℕ) → WritesString v old (Ok n) new
     → ReadsString p (take n new) 0 n lent r after → Fills v lent (said_of r) after
 unfolding WritesString ReadsString
 strings p v old n new lent r after w i =
@@ -99,7 +98,7 @@ strings p v old n new lent r after w i =
     let j : ReadsString p l 0 (length l) lent r after = is_all (λ x m. ReadsString p x 0 m lent r after) (take n new) l n (written-part w) i in
     subst (λ (x : List ℕ). Fills x lent (said_of r) after) (ap unquoted (whole-span l) ∙ Strings.read_back 39 v (λ e. omega arith)) (taken (string-written p v) j)
 
-pub names : (p : Profile) (v old : List ℕ) (n : ℕ) (new lent : List ℕ) (r : BytesRead) (after : List ℕ) → WritesName v old (Length n) new
+pub names : (p : Profile) (v old : List ℕ) (n : ℕ) (new lent : List ℕ) (r : Result ℕ ReadError) (after : List ℕ) → WritesName v old (Ok n) new
     → ReadsName p (take n new) 0 n lent r after → Fills v lent (said_of r) after
 unfolding WritesName ReadsName
 names p v old n new lent r after w i =
@@ -107,7 +106,7 @@ names p v old n new lent r after w i =
     let j : ReadsName p l 0 (length l) lent r after = is_all (λ x m. ReadsName p x 0 m lent r after) (take n new) l n (written-part w) i in
     subst (λ (x : List ℕ). Fills x lent (said_of r) after) (ap unquoted (whole-span l) ∙ Strings.read_back 34 v (λ e. omega arith)) (taken (name-written p v) j)
 
-pub blobs : (p : Profile) (v old : List ℕ) (n : ℕ) (new lent : List ℕ) (r : BytesRead) (after : List ℕ) → are_bytes v ≡ true → WritesBlob v old (Length n) new
+pub blobs : (p : Profile) (v old : List ℕ) (n : ℕ) (new lent : List ℕ) (r : Result ℕ ReadError) (after : List ℕ) → are_bytes v ≡ true → WritesBlob v old (Ok n) new
     → ReadsBlob p (take n new) 0 n lent r after → Fills v lent (said_of r) after
 unfolding WritesBlob ReadsBlob
 blobs p v old n new lent r after b w i =
@@ -129,20 +128,20 @@ module _ (p : Profile) (s : List ℕ) (start n : ℕ) where
   still-bytes t u e (inl h) = absurd (h.0 t)
   still-bytes {That} {There} {v} {w} {old} {new} {said} t u e (inr h) = inr (u, subst (λ (x : List ℕ). Fills x old said new) e h.1)
 
-  pub integer-alone : (r : IntegerRead) → IsToken p s start n (kind "TK_INTEGER") → ReadsInteger p s start n r → ReadsInteger p (span s start n) 0 n r
+  pub integer-alone : (r : Result ℤ IntegerError) → IsToken p s start n (kind "TK_INTEGER") → ReadsInteger p s start n r → ReadsInteger p (span s start n) 0 n r
   unfolding ReadsInteger
   integer-alone r t = still t (is-alone p s start n (kind "TK_INTEGER") t) (ap integer_of (sym (same_bytes (span-long p s start n (kind "TK_INTEGER") t))))
 
-  pub string-alone : (old : List ℕ) (r : BytesRead) (new : List ℕ) → IsToken p s start n (kind "TK_STRING") → ReadsString p s start n old r new
+  pub string-alone : (old : List ℕ) (r : Result ℕ ReadError) (new : List ℕ) → IsToken p s start n (kind "TK_STRING") → ReadsString p s start n old r new
       → ReadsString p (span s start n) 0 n old r new
   unfolding ReadsString
   string-alone old r new t = still-bytes t (is-alone p s start n (kind "TK_STRING") t) (ap unquoted (sym (same_bytes (span-long p s start n (kind "TK_STRING") t))))
 
-  pub named-alone : (old : List ℕ) (r : BytesRead) (new : List ℕ) → IsName p s start n → ReadsName p s start n old r new → ReadsName p (span s start n) 0 n old r new
+  pub named-alone : (old : List ℕ) (r : Result ℕ ReadError) (new : List ℕ) → IsName p s start n → ReadsName p s start n old r new → ReadsName p (span s start n) 0 n old r new
   unfolding ReadsName IsName
   named-alone old r new t = still-bytes t (name-alone p s start n t) (ap unquoted (sym (same_bytes (span-long p s start n (kind "TK_ID") t.0))))
 
-  pub blob-alone : (old : List ℕ) (r : BytesRead) (new : List ℕ) → IsToken p s start n (kind "TK_BLOB") → ReadsBlob p s start n old r new
+  pub blob-alone : (old : List ℕ) (r : Result ℕ ReadError) (new : List ℕ) → IsToken p s start n (kind "TK_BLOB") → ReadsBlob p s start n old r new
       → ReadsBlob p (span s start n) 0 n old r new
   unfolding ReadsBlob
   blob-alone old r new t = still-bytes t (is-alone p s start n (kind "TK_BLOB") t) (ap blob_bytes (sym (same_bytes (span-long p s start n (kind "TK_BLOB") t))))
