@@ -6,9 +6,10 @@ use lib.IntN.{ℤ}
 use Rattle.grammar.specs.declared.profile.Profile.{Profile}
 use Rattle.buffers.specs.Buffers as Buffers
 use Rattle.buffers.specs.Buffers.{Said}
-use Rattle.buffers.specs.declared.written.Written.{Written}
+use Rattle.std.specs.Prelude.{Result}
+use Rattle.buffers.specs.declared.written.NoRoom.{NoRoom}
 use Rattle.spans.specs.Spans as Spans
-use Rattle.spans.specs.declared.answers.BytesRead.{BytesRead}
+use Rattle.spans.specs.declared.answers.ReadError.{ReadError}
 use Rattle.integers.specs.Calls as Integers
 use Rattle.integers.specs.Calls.{WritesInteger}
 use Rattle.integers.proofs.Theorems as integers
@@ -37,7 +38,7 @@ read-integer-unique s start n profile old k l v w =
 -- of a call below that reads bytes two answers are one, with one buffer; of the call above it two results are one
 abbrev OneRead : BytesReader → Type 0
 OneRead Reads =
-    (p : Profile) (s : List ℕ) (start n : ℕ) (old new new' : List ℕ) (r q : BytesRead)
+    (p : Profile) (s : List ℕ) (start n : ℕ) (old new new' : List ℕ) (r q : Result ℕ ReadError)
     → Reads p s start n old r new → Reads p s start n old q new' → (r ≡ q) × (new ≡ new')
 
 abbrev pub OneReadCall : BytesReader → Type 0
@@ -66,7 +67,7 @@ read-blob-unique = read-unique ReadsBlob blobs.read-blob-unique
 
 -- and so where a literal is written
 abbrev OneWritten : LiteralWriter → Type 0
-OneWritten Writes = (old new new' : List ℕ) (r q : Written) → Writes old r new → Writes old q new' → (r ≡ q) × (new ≡ new')
+OneWritten Writes = (old new new' : List ℕ) (r q : Result ℕ NoRoom) → Writes old r new → Writes old q new' → (r ≡ q) × (new ≡ new')
 
 abbrev pub OneWriteCall : LiteralWriter → Type 0
 OneWriteCall Writes =

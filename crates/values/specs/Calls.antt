@@ -1,14 +1,14 @@
 -- What the calls owe: a status, and what stands afterwards where the value or the count is lent, as the call below says it; where a number is
 -- no profile's a status of its own, and everything lent as it was. Assumes nothing.
-use Rattle.std.specs.Prelude.{ℕ, ◌≡◌, List, ℤ}
+use Rattle.std.specs.Prelude.{ℕ, ◌≡◌, List, ℤ, Result}
 use Rattle.grammar.specs.declared.profile.Profile.{Profile}
 use Rattle.buffers.specs.Buffers as Buffers
 use Rattle.buffers.specs.Buffers.{Said, valued, filled, refused}
-use Rattle.buffers.specs.declared.written.Written.{Written}
+use Rattle.buffers.specs.declared.written.NoRoom.{NoRoom}
 use Rattle.spans.specs.Spans as Spans
-use Rattle.spans.specs.declared.answers.BytesRead.{BytesRead}
+use Rattle.spans.specs.declared.answers.ReadError.{ReadError}
 use Rattle.integers.specs.Calls as Integers
-use Rattle.integers.specs.declared.reading.IntegerRead.{IntegerRead}
+use Rattle.integers.specs.declared.reading.IntegerError.{IntegerError}
 use Rattle.codes.specs.Profiles.{profile_of, unknown_profile, Under}
 
 -- the status where a value was read, or a literal written
@@ -42,24 +42,24 @@ GaveCount said old status new = (status ≡ status_of said) × (new ≡ count_af
 -- an integer is read from a span, with the value before and after
 abbrev pub ReadIntegerCall : List ℕ → ℕ → ℕ → ℕ → ℤ → ℕ → ℤ → Type 0
 ReadIntegerCall s start n profile old status new =
-    Under (profile_of profile) (λ p. (r : IntegerRead) × Integers.ReadsInteger p s start n r × GaveValue (Integers.said_of r) old status new)
+    Under (profile_of profile) (λ p. (r : Result ℤ IntegerError) × Integers.ReadsInteger p s start n r × GaveValue (Integers.said_of r) old status new)
     ((status ≡ unknown_profile) × (new ≡ old))
 
 -- what a call below owes that reads bytes: under a profile, from a span, its answer, with the buffer before and after
 abbrev pub BytesReader : Type 1
-BytesReader = Profile → List ℕ → ℕ → ℕ → List ℕ → BytesRead → List ℕ → Type 0
+BytesReader = Profile → List ℕ → ℕ → ℕ → List ℕ → Result ℕ ReadError → List ℕ → Type 0
 
 -- bytes are read from a span, of the literal that the call below reads; with the buffer and the count before and after
 abbrev pub ReadBytesCall : BytesReader → List ℕ → ℕ → ℕ → ℕ → List ℕ → ℕ → ℕ → List ℕ → ℕ → Type 0
 ReadBytesCall Reads s start n profile buffer count status buffer' count' =
-    Under (profile_of profile) (λ p. (r : BytesRead) × Reads p s start n buffer r buffer' × GaveCount (Spans.said_of r) count status count')
+    Under (profile_of profile) (λ p. (r : Result ℕ ReadError) × Reads p s start n buffer r buffer' × GaveCount (Spans.said_of r) count status count')
     ((status ≡ unknown_profile) × (buffer' ≡ buffer) × (count' ≡ count))
 
 -- what a call below owes that writes the literal of a value: its answer, with the buffer before and after
 abbrev pub LiteralWriter : Type 1
-LiteralWriter = List ℕ → Written → List ℕ → Type 0
+LiteralWriter = List ℕ → Result ℕ NoRoom → List ℕ → Type 0
 
 -- a literal is written, with the buffer and the count before and after
 abbrev pub WriteCall : LiteralWriter → List ℕ → ℕ → ℕ → List ℕ → ℕ → Type 0
 WriteCall Writes buffer count status buffer' count' =
-    (r : Written) × Writes buffer r buffer' × GaveCount (Buffers.said_of r) count status count'
+    (r : Result ℕ NoRoom) × Writes buffer r buffer' × GaveCount (Buffers.said_of r) count status count'
