@@ -1,3 +1,2 @@
 pub mod CodeLaws
-pub mod ToldLaws
 pub mod Theorems

@@ -1,4 +1,5 @@
-// Answers in numbers: what `include/sqllex.h` calls a status, and what it says beside it.
+// Answers in numbers: what `include/sqllex.h` calls a status, and what it says beside it. Statuses are numbers and no enum since C gets them
+// so, and since refusals, of which each crate has its own, are among them.
 ghost use Rattle.std.specs.Prelude.{◌≡◌};
 ghost use Rattle.lexer.specs.Values.{number_of};
 ghost use Rattle.codes.specs.Numbers.{five, of_token};
@@ -82,6 +83,7 @@ pub fn of_token(
     }
 }
 
+// Both types are foreign, so this is no `From`; and a `match`, since its arms say which number C has for which refusal.
 pub fn number_of(why: Refusal) -> u32
     ensures { result ≡ number_of why }
 {

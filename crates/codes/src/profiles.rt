@@ -18,8 +18,5 @@ pub fn profile_of(number: u32) -> Option<Profile>
 pub fn number_of(profile: Profile) -> u32
     ensures { result ≡ profile_number profile }
 {
-    match profile {
-        Profile::Turso => 0,
-        Profile::Sqlite => 1,
-    }
+    profile as u32
 }

@@ -69,30 +69,18 @@ pub fn of_part(answer: Part) -> Numbers
     ensures { result ≡ of_part answer }
 {
     match answer {
-        Part::End {
-            records,
-            spent: _,
-            next,
-        } => five(END, records, next.at, 0, next.at),
+        Part::End { records, next, .. } => five(END, records, next.at, 0, next.at),
         Part::Refused {
             why,
             start,
             length,
             records,
-            spent: _,
             next,
+            ..
         } => five(number_of(why), records, start, length, next.at),
         Part::TooLong { next } => five(TOO_LONG, 0, 0, 0, next.at),
-        Part::Paused {
-            records,
-            spent: _,
-            next,
-        } => five(PAUSED, records, next.at, 0, next.at),
-        Part::ListFull {
-            records,
-            spent: _,
-            next,
-        } => five(LIST_FULL, records, next.at, 0, next.at),
+        Part::Paused { records, next, .. } => five(PAUSED, records, next.at, 0, next.at),
+        Part::ListFull { records, next, .. } => five(LIST_FULL, records, next.at, 0, next.at),
     }
 }
 
@@ -101,30 +89,11 @@ pub fn spent_in(answer: Part) -> u32
     ensures { result ≡ spent_in answer }
 {
     match answer {
-        Part::End {
-            records: _,
-            spent,
-            next: _,
-        } => spent,
-        Part::Refused {
-            why: _,
-            start: _,
-            length: _,
-            records: _,
-            spent,
-            next: _,
-        } => spent,
-        Part::TooLong { next: _ } => 0,
-        Part::Paused {
-            records: _,
-            spent,
-            next: _,
-        } => spent,
-        Part::ListFull {
-            records: _,
-            spent,
-            next: _,
-        } => spent,
+        Part::End { spent, .. }
+        | Part::Refused { spent, .. }
+        | Part::Paused { spent, .. }
+        | Part::ListFull { spent, .. } => spent,
+        Part::TooLong { .. } => 0,
     }
 }
 
