@@ -1,2 +1,1 @@
-pub mod LabelLaws
 pub mod Theorems

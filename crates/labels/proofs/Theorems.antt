@@ -9,25 +9,25 @@ use mathlib.Core.List.{List, [], ◌∷◌}
 use lib.Dec.{eqb, ltb}
 use lib.ListN.{length, get_or}
 use borrow.Author.Tests.{eqb-true, ltb-true, eq-eqb}
+use Rattle.std.specs.Prelude.{Option, Some, None, option_copied}
+use Rattle.std.specs.Slice.{IsItemAt}
+use denote.Ref.{Bor}
 use Rattle.keywords.proofs.Logic.{and_left, and_right}
 use Rattle.readings.specs.declared.reading.Reading.{Reading}
 use Rattle.readings.specs.declared.reading.Reading.TheVariants.{Dead}
 use Rattle.readings.proofs.Numbers.{number, readings, same_number, each-reading}
 use Rattle.intake.specs.declared.state.Phase.{Phase}
 use Rattle.intake.specs.declared.state.Phase.TheVariants.{Open, Ending, Closed}
-use Rattle.labels.specs.declared.phases.Reached.TheVariants as Reached
-use Rattle.labels.specs.declared.so_far.Read.{Read}
-use Rattle.labels.specs.declared.so_far.Read.TheVariants.{Known, Unknown}
 use Rattle.labels.specs.Phases.{phase_of, phase_number}
 use Rattle.labels.specs.Readings.{reading_number, Numbers}
 
-pub phase-back : (f : Phase) → phase_of (phase_number f) ≡ Reached.Known f
+pub phase-back : (f : Phase) → phase_of (phase_number f) ≡ Some f
 phase-back Open = refl
 phase-back Ending = refl
 phase-back Closed = refl
 
 -- and no other number gives it
-pub phase-number : (n : ℕ) (f : Phase) → phase_of n ≡ Reached.Known f → phase_number f ≡ n
+pub phase-number : (n : ℕ) (f : Phase) → phase_of n ≡ Some f → phase_number f ≡ n
 phase-number zero f e = let d : f ≡ Open = cc in ap phase_number d
 phase-number (suc zero) f e = let d : f ≡ Ending = cc in ap phase_number d
 phase-number (suc (suc zero)) f e = let d : f ≡ Closed = cc in ap phase_number d
@@ -52,16 +52,21 @@ abbrev counts : ℕ → List Reading → Bool
 counts k [] = true
 counts k (r ∷ l) = eqb (reading_number r) k && counts (suc k) l
 
-counted : (k : ℕ) (l : List Reading) (i : ℕ) → counts k l ≡ true → i < length l → reading_number (get_or l i Dead) ≡ k + i
-counted k [] i e h = absurd (omega arith)
-counted k (r ∷ l) zero e h = omega (arith, eqb-true (reading_number r) k (and_left (eqb (reading_number r) k) (counts (suc k) l) e))
-counted k (r ∷ l) (suc i) e h = omega (arith, counted (suc k) l i (and_right (eqb (reading_number r) k) (counts (suc k) l) e) (omega arith))
+counted : (k : ℕ) (l : List Reading) (i : ℕ) (d : Reading) → counts k l ≡ true → i < length l → reading_number (get_or l i d) ≡ k + i
+counted k [] i d e h = absurd (omega arith)
+counted k (r ∷ l) zero d e h = omega (arith, eqb-true (reading_number r) k (and_left (eqb (reading_number r) k) (counts (suc k) l) e))
+counted k (r ∷ l) (suc i) d e h = omega (arith, counted (suc k) l i d (and_right (eqb (reading_number r) k) (counts (suc k) l) e) (omega arith))
 
 pub reading-at : (n : ℕ) → n < 47 → (r : Reading) × (reading_number r ≡ n)
-reading-at n h = (get_or readings n Dead, omega (arith, counted 0 readings n refl h))
+reading-at n h = (get_or readings n Dead, omega (arith, counted 0 readings n Dead refl h))
 
-pub reading-unique : (n : ℕ) (a b : Read) → Numbers n a → Numbers n b → a ≡ b
-reading-unique n (Known r) (Known q) h i = ap Known (reading-one r q (h ∙ sym i))
-reading-unique n (Known r) Unknown h i = absurd (omega (arith, reading_small r))
-reading-unique n Unknown (Known q) h i = absurd (omega (arith, reading_small q))
-reading-unique n Unknown Unknown h i = refl
+pub reading-unique : (n : ℕ) (a b : Option Reading) → Numbers n a → Numbers n b → a ≡ b
+reading-unique n (Some r) (Some q) h i = ap Some (reading-one r q (h ∙ sym i))
+reading-unique n (Some r) None h i = absurd (omega (arith, reading_small r))
+reading-unique n None (Some q) h i = absurd (omega (arith, reading_small q))
+reading-unique n None None h i = refl
+
+-- what a look-up in the list gives
+pub looked-up : (n : ℕ) (r : Option (Bor Reading)) → IsItemAt readings n r → Numbers n (option_copied r)
+looked-up n None h = h.3
+looked-up n (Some x) h = omega (arith, ap reading_number h.1, counted 0 readings n x.now refl h.3.0)

@@ -1,5 +1,5 @@
 -- Readings by number, as C has them: a stream's state is kept in numbers. Assumes nothing.
-use Rattle.std.specs.Prelude.{ℕ, ◌+◌, ◌≤◌, ◌≡◌}
+use Rattle.std.specs.Prelude.{ℕ, ◌+◌, ◌≤◌, ◌≡◌, Option, Some, None}
 use Rattle.readings.specs.declared.reading.Reading.{Reading}
 use Rattle.readings.specs.declared.reading.Reading.TheVariants as R
 use Rattle.readings.specs.declared.reading.Run.{Run}
@@ -12,8 +12,6 @@ use Rattle.readings.specs.declared.reading.Named.{Named}
 use Rattle.readings.specs.declared.reading.Named.TheVariants.{Sigil, SigilColon, Colon, At, Name, NameColon, Paren, Question}
 use Rattle.readings.specs.declared.reading.Number.{Number}
 use Rattle.readings.specs.declared.reading.Number.TheVariants.{Zero, Digits, DigitsUnderscore, DigitsDot, Dot, Fraction, E, Sign, Exponent, ExponentUnderscore, ZeroX, Hex, HexUnderscore}
-use Rattle.labels.specs.declared.so_far.Read.{Read}
-use Rattle.labels.specs.declared.so_far.Read.TheVariants.{Known, Unknown}
 
 abbrev pub run_number : Run → ℕ
 run_number Blanks = 0
@@ -81,6 +79,6 @@ reading_number (R.Named x) = 26 + named_number x
 reading_number (R.Number x) = 34 + number_number x
 
 -- which reading has a number: that one, or, from 47 on, none
-abbrev pub Numbers : ℕ → Read → Type 0
-Numbers number (Known r) = reading_number r ≡ number
-Numbers number Unknown = 47 ≤ number
+abbrev pub Numbers : ℕ → Option Reading → Type 0
+Numbers number (Some r) = reading_number r ≡ number
+Numbers number None = 47 ≤ number
