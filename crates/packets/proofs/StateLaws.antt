@@ -5,11 +5,10 @@ use mathlib.Core.Path.{◌≡◌, sym, ◌∙◌, ap}
 use mathlib.Core.List.{List, [], ◌∷◌}
 use lib.ListN.{length, drop, get_or, drop_of_length-le}
 use lib.Seq.{drop-cons}
+use Rattle.std.specs.Prelude.{Some, None}
 use Rattle.grammar.specs.declared.profile.Profile.{Profile}
 use Rattle.readings.specs.declared.reading.Reading.{Reading}
 use Rattle.intake.specs.declared.state.Phase.{Phase}
-use Rattle.codes.specs.declared.profiles.Chosen.TheVariants as Chosen
-use Rattle.labels.specs.declared.phases.Reached.TheVariants as Reached
 use Rattle.codes.specs.Profiles.{profile_of}
 use Rattle.labels.specs.Phases.{phase_of, phase_number}
 use Rattle.labels.specs.Readings.{reading_number}
@@ -27,8 +26,8 @@ all-entries zero k l e = sym (drop_of_length-le l {i = k} (omega arith))
 all-entries (suc n) k l e = ap (λ (t : List ℕ). get_or l k 0 ∷ t) (all-entries n (suc k) l (omega arith)) ∙ sym (drop-cons l k 0 (omega arith))
 
 module _ (state : List ℕ) where
-  pub stream-is : length state ≡ 6 → (p : Profile) (f : Phase) (r : Reading) → profile_of (get_or state 0 0) ≡ Chosen.Known p
-      → phase_of (get_or state 1 0) ≡ Reached.Known f → reading_number r ≡ get_or state 2 0
+  pub stream-is : length state ≡ 6 → (p : Profile) (f : Phase) (r : Reading) → profile_of (get_or state 0 0) ≡ Some p
+      → phase_of (get_or state 1 0) ≡ Some f → reading_number r ≡ get_or state 2 0
       → numbers_of (record { profile = p; reading = r; phase = f; given = get_or state 3 0; held = get_or state 4 0; total = get_or state 5 0 }) ≡ state
   stream-is l p f r a b c =
       let i = profile-number (get_or state 0 0) p a in
@@ -40,15 +39,15 @@ module _ (state : List ℕ) where
       ∙ all-entries 6 0 state l
 
   -- no stream has a number that is no profile's, no phase's, or no reading's
-  pub no-profile : profile_of (get_or state 0 0) ≡ Chosen.Unknown → NoStreams state
+  pub no-profile : profile_of (get_or state 0 0) ≡ None → NoStreams state
   no-profile a s e =
-      let h : profile_of (get_or state 0 0) ≡ Chosen.Known s.profile = ap (λ (l : List ℕ). profile_of (get_or l 0 0)) (sym e) ∙ profile-back s.profile in
+      let h : profile_of (get_or state 0 0) ≡ Some s.profile = ap (λ (l : List ℕ). profile_of (get_or l 0 0)) (sym e) ∙ profile-back s.profile in
       let z : ◌≡◌ {A = ℕ} 0 1 = cc in
       omega arith
 
-  pub no-phase : phase_of (get_or state 1 0) ≡ Reached.Unknown → NoStreams state
+  pub no-phase : phase_of (get_or state 1 0) ≡ None → NoStreams state
   no-phase a s e =
-      let h : phase_of (get_or state 1 0) ≡ Reached.Known s.phase = ap (λ (l : List ℕ). phase_of (get_or l 1 0)) (sym e) ∙ phase-back s.phase in
+      let h : phase_of (get_or state 1 0) ≡ Some s.phase = ap (λ (l : List ℕ). phase_of (get_or l 1 0)) (sym e) ∙ phase-back s.phase in
       let z : ◌≡◌ {A = ℕ} 0 1 = cc in
       omega arith
 

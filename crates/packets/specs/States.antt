@@ -1,12 +1,10 @@
 -- A stream's state in six numbers, which the caller keeps from call to call. Assumes nothing.
-use Rattle.std.specs.Prelude.{ℕ, ◌≤◌, ◌≡◌, List, [], ◌∷◌}
+use Rattle.std.specs.Prelude.{ℕ, ◌≤◌, ◌≡◌, List, [], ◌∷◌, Option, Some, None}
 use Rattle.intake.specs.declared.state.Stream.{Stream}
 use Rattle.stream.specs.Calls.{most}
 use Rattle.codes.specs.Profiles.{profile_number}
 use Rattle.labels.specs.Phases.{phase_number}
 use Rattle.labels.specs.Readings.{reading_number}
-use Rattle.packets.specs.declared.states.Restored.{Restored}
-use Rattle.packets.specs.declared.states.Restored.TheVariants as R
 
 abbrev pub numbers_of : Stream → List ℕ
 numbers_of s =
@@ -26,6 +24,6 @@ NoStreams state = (s : Stream) → numbers_of s ≡ state → ⊥
 abbrev pub Counted : Stream → Type 0
 Counted s = (s.given ≤ most) × (s.held ≤ most)
 
-abbrev pub Restores : List ℕ → Restored → Type 0
-Restores state (R.Stream s) = (numbers_of s ≡ state) × Counted s
-Restores state R.Unknown = NoStreams state
+abbrev pub Restores : List ℕ → Option Stream → Type 0
+Restores state (Some s) = (numbers_of s ≡ state) × Counted s
+Restores state None = NoStreams state

@@ -10,5 +10,5 @@ pub tell-requires : goal.tell-requires
 tell-requires c =
     let row = c.args.row.now in
     let long : length row ≤ most = omega arith in
-    let (e, counted) = c.in-Stream.ensures in
+    let (e, counted) = c.in-Some.ensures in
     finished-within _ row _ _ most long counted c.finish.ensures
