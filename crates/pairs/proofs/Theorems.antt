@@ -23,36 +23,37 @@ use Rattle.brackets.proofs.Accepted.{paired-is-accepted}
 use Rattle.brackets.proofs.Deepest.{deepest-is, deepest-small}
 use Rattle.brackets.proofs.FirstFault.{fault-first}
 use Rattle.brackets.proofs.LastOpen.{left-open-last}
-use Rattle.pairs.specs.declared.Paired.{Paired}
-use Rattle.pairs.specs.declared.Paired.TheVariants.{Deepest, NotRecords, TooLong, NoRoom, TooDeep, WrongCloser, LeftOpen}
+use Rattle.std.specs.Prelude.{Result, Ok, Err}
+use Rattle.pairs.specs.declared.PairError.{PairError}
+use Rattle.pairs.specs.declared.PairError.TheVariants.{NotRecords, TooLong, NoRoom, TooDeep, WrongCloser, LeftOpen}
 use Rattle.pairs.specs.Pairs.{outcome_of, Pairs}
 
 -- an outcome is that of one answer
-abbrev refusal_of : ℕ → ℕ → Paired
-refusal_of n i =
+abbrev error_of : ℕ → ℕ → PairError
+error_of n i =
     cond (eqb n 17) NotRecords (cond (eqb n 9) TooLong (cond (eqb n 13) NoRoom (cond (eqb n 18) (TooDeep i) (cond (eqb n 19) (WrongCloser i) (LeftOpen i)))))
 
-abbrev answer_of : Outcome → Paired
-answer_of (deepest d) = Deepest d
-answer_of (refused number index) = refusal_of number index
+abbrev answer_of : Outcome → Result ℕ PairError
+answer_of (deepest d) = Ok d
+answer_of (refused number index) = Err (error_of number index)
 
-answer_back : (r : Paired) → answer_of (outcome_of r) ≡ r
-answer_back (Deepest d) = refl
-answer_back NotRecords = refl
-answer_back TooLong = refl
-answer_back NoRoom = refl
-answer_back (TooDeep index) = refl
-answer_back (WrongCloser index) = refl
-answer_back (LeftOpen index) = refl
+answer_back : (r : Result ℕ PairError) → answer_of (outcome_of r) ≡ r
+answer_back (Ok d) = refl
+answer_back (Err NotRecords) = refl
+answer_back (Err TooLong) = refl
+answer_back (Err NoRoom) = refl
+answer_back (Err (TooDeep index)) = refl
+answer_back (Err (WrongCloser index)) = refl
+answer_back (Err (LeftOpen index)) = refl
 
-pub same_outcome : (r q : Paired) → outcome_of r ≡ outcome_of q → r ≡ q
+pub same_outcome : (r q : Result ℕ PairError) → outcome_of r ≡ outcome_of q → r ≡ q
 same_outcome r q e = sym (answer_back r) ∙ ap answer_of e ∙ answer_back q
 
-pub pair-unique : (ns before : List ℕ) (r q : Paired) (after later : List ℕ) → Pairs ns before r after → Pairs ns before q later → (r ≡ q) × (after ≡ later)
+pub pair-unique : (ns before : List ℕ) (r q : Result ℕ PairError) (after later : List ℕ) → Pairs ns before r after → Pairs ns before q later → (r ≡ q) × (after ≡ later)
 unfolding Pairs
 pair-unique ns before r q after later (e, w) (f, v) = (same_outcome r q (e ∙ sym f), w ∙ sym v)
 
-pub pair-refused : (ns before : List ℕ) (r : Paired) (after : List ℕ) (number index : ℕ) → outcome_of r ≡ refused number index → Pairs ns before r after
+pub pair-refused : (ns before : List ℕ) (r : Result ℕ PairError) (after : List ℕ) (number index : ℕ) → outcome_of r ≡ refused number index → Pairs ns before r after
     → after ≡ before
 unfolding Pairs
 pair-refused ns before r after number index e (f, w) = w ∙ ap (λ o. written_for o (kinds_of ns) before) (sym f ∙ e)
@@ -71,7 +72,7 @@ module _ (ns before : List ℕ) (d : ℕ) where
       not-refused : {X : Type 0} {number index : ℕ} → refused number index ≡ deepest d → X
       not-refused {X} {number} {index} e = absurd (deepest-not-refused d number index (sym e))
 
-  module _ (after : List ℕ) (p : Pairs ns before (Deepest d) after) where
+  module _ (after : List ℕ) (p : Pairs ns before (Ok d) after) where
     came : (length (kinds_of ns) ≤ length before) × (nesting (kinds_of ns) 0 [] 0 ≡ deepest d)
     unfolding Pairs
     came = looked (sym p.0)
@@ -90,7 +91,7 @@ module _ (ns before : List ℕ) (d : ℕ) where
     pub pair-deepest : DeepestNesting (kinds_of ns) after d × (d ≤ levels)
     pair-deepest = (deepest-is (kinds_of ns) after d came.1 pair-right.0, deepest-small (kinds_of ns) d came.1)
 
-pub pair-accepts : (ns before : List ℕ) (r : Paired) (after qs : List ℕ) → are_records ns ≡ true → length (kinds_of ns) ≤ most_records
+pub pair-accepts : (ns before : List ℕ) (r : Result ℕ PairError) (after qs : List ℕ) → are_records ns ≡ true → length (kinds_of ns) ≤ most_records
     → length (kinds_of ns) ≤ length before → Pairing (kinds_of ns) qs → (number index : ℕ) → outcome_of r ≡ refused number index → Pairs ns before r after
     → number ≡ pair_refusal "TooDeep"
 unfolding Pairs
@@ -108,14 +109,14 @@ module _ (ns before after : List ℕ) (index : ℕ) where
       not-that : (other : ℕ) → other < number → refused other 0 ≡ refused number index → ⊥
       not-that other less e = let same : other ≡ number = cc in omega arith
 
-  pub pair-too-deep : Pairs ns before (TooDeep index) after → FirstFault (kinds_of ns) (pair_refusal "TooDeep") index
+  pub pair-too-deep : Pairs ns before (Err (TooDeep index)) after → FirstFault (kinds_of ns) (pair_refusal "TooDeep") index
   unfolding Pairs
   pair-too-deep (e, w) = fault-first (kinds_of ns) _ index (looked-at _ (omega arith) (sym e)) (λ f. omega (arith, f))
 
-  pub pair-wrong-closer : Pairs ns before (WrongCloser index) after → FirstFault (kinds_of ns) (pair_refusal "WrongCloser") index
+  pub pair-wrong-closer : Pairs ns before (Err (WrongCloser index)) after → FirstFault (kinds_of ns) (pair_refusal "WrongCloser") index
   unfolding Pairs
   pair-wrong-closer (e, w) = fault-first (kinds_of ns) _ index (looked-at _ (omega arith) (sym e)) (λ f. omega (arith, f))
 
-  pub pair-left-open : Pairs ns before (LeftOpen index) after → LastOpen (kinds_of ns) index
+  pub pair-left-open : Pairs ns before (Err (LeftOpen index)) after → LastOpen (kinds_of ns) index
   unfolding Pairs
   pair-left-open (e, w) = left-open-last (kinds_of ns) index (looked-at _ (omega arith) (sym e))

@@ -9,22 +9,19 @@ use records::WIDTH;
 pub(crate) fn is_opener(kind: u32) -> bool
     ensures { result ≡ is_opener kind }
 {
-    kind == TK_LP || kind == TK_LBRACKET
+    matches!(kind, TK_LP | TK_LBRACKET)
 }
 
 pub(crate) fn is_closer(kind: u32) -> bool
     ensures { result ≡ is_closer kind }
 {
-    kind == TK_RP || kind == TK_RBRACKET
+    matches!(kind, TK_RP | TK_RBRACKET)
 }
 
 pub(crate) fn closer_of(kind: u32) -> u32
     ensures { result ≡ closer_of kind }
 {
-    if kind == TK_LP {
-        return TK_RP;
-    }
-    TK_RBRACKET
+    if kind == TK_LP { TK_RP } else { TK_RBRACKET }
 }
 
 // Of the record at an index; its kind is the first of its numbers.

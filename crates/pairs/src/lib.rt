@@ -15,10 +15,9 @@ use records::WIDTH;
 // More records no text of a list has.
 const MOST_RECORDS: usize = 65535;
 
-// `Deepest` has how deep the brackets nest. An index is that of the record at fault, the first; of those left open it is the innermost.
+// An index is that of the record at fault, the first; of those left open it is the innermost.
 #[derive(Clone, Copy)]
-pub enum Paired {
-    Deepest(u32),
+pub enum PairError {
     NotRecords,
     TooLong,
     NoRoom,
@@ -27,24 +26,21 @@ pub enum Paired {
     LeftOpen { index: usize },
 }
 
-// Writes for each record, five numbers of the list, its partner's index, or its own if it has none.
-pub fn pair(numbers: &[u32], partners: &mut [u32]) -> Paired
+// Writes for each record, five numbers of the list, its partner's index, or its own if it has none; returns how deep the brackets nest.
+pub fn pair(numbers: &[u32], partners: &mut [u32]) -> Result<u32, PairError>
     ensures { Pairs numbers.now partners.old result partners.new }
 {
     if numbers.len() % WIDTH != 0 {
-        return Paired::NotRecords;
+        return Err(PairError::NotRecords);
     }
     let count = numbers.len() / WIDTH;
     if MOST_RECORDS < count {
-        return Paired::TooLong;
+        return Err(PairError::TooLong);
     }
     if partners.len() < count {
-        return Paired::NoRoom;
+        return Err(PairError::NoRoom);
     }
-    let found = nested(numbers);
-    let Paired::Deepest(_) = found else {
-        return found;
-    };
+    let deepest = nested(numbers)?;
     write_items(numbers, 0, 0, partners);
-    found
+    Ok(deepest)
 }

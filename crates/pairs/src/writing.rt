@@ -1,4 +1,5 @@
-// The second pass, over a list without a fault: nothing is looked for any more, and each group's two brackets get each other's index.
+// The second pass, over a list without a fault: nothing is looked for any more, and each group's two brackets get each other's index. As in the
+// first, a group is passed in one step, so the loop is no `for`.
 ghost use Rattle.std.specs.Prelude.{◌≡◌, true, ◌≤◌};
 ghost use Rattle.brackets.specs.Numbers.{are_records, kinds_of};
 ghost use Rattle.pairs.specs.Parts.{OpenerAt, Ready, WroteItems, WroteGroup};
@@ -21,7 +22,7 @@ pub(crate) fn write_items(numbers: &[u32], from: usize, depth: u32, partners: &m
             at = write_group(numbers, at, depth, partners);
         } else {
             partners[at] = at as u32;
-            at = at + 1;
+            at += 1;
         }
     }
     at

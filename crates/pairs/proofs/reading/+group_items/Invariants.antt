@@ -4,7 +4,7 @@
 use Prim.Native.Nat.{◌+◌, ◌-◌, ◌*◌, ◌≤◌}
 use lib.ListN.{length}
 use Rattle.brackets.specs.Numbers.{kinds_of}
-use Rattle.pairs.specs.declared.reading.Part.TheVariants.{Upto}
+use Rattle.std.specs.Prelude.{Ok}
 use Rattle.pairs.specs.Parts.{Reads}
 use Rattle.pairs.proofs.reading.+group_items.Given as goal
 
@@ -14,9 +14,9 @@ decreases-group l = 2 * (17 - l.depth)
 abbrev pub decreases-items : goal.decreases-items
 decreases-items l = 2 * (17 - l.depth) + 1
 
-abbrev pub invariant-items-loop-at : goal.invariant-items-loop-at
-invariant-items-loop-at l =
-    (l.from ≤ l.at) × (l.at ≤ length (kinds_of l.numbers)) × Reads (kinds_of l.numbers) l.from l.depth l.deepest (Upto l.at l.most)
+abbrev pub invariant-items-loop-read : goal.invariant-items-loop-read
+invariant-items-loop-read l =
+    (l.from ≤ l.read.at) × (l.read.at ≤ length (kinds_of l.numbers)) × Reads (kinds_of l.numbers) l.from l.depth l.deepest (Ok l.read)
 
-abbrev pub decreases-items-loop-at : goal.decreases-items-loop-at
-decreases-items-loop-at l = length (kinds_of l.numbers) - l.at
+abbrev pub decreases-items-loop-read : goal.decreases-items-loop-read
+decreases-items-loop-read l = length (kinds_of l.numbers) - l.read.at

@@ -1,32 +1,33 @@
 -- `pairs::reading::nested` meets its contract. Assumes nothing.
+use mathlib.Core.Path.{◌∙◌, ap}
+use native.Mathlib.Omega.{arith}
 use borrow.Author.Rules.{rules}
+use Rattle.std.proofs.lemmas.Result.{err_from_is_err_and}
 use Rattle.brackets.specs.Numbers.{kinds_of}
-use Rattle.brackets.proofs.NumberLaws.{records-count, index-at-end, index-before}
+use Rattle.brackets.proofs.NumberLaws.{records-count, index-inside, index-past}
+use Rattle.pairs.specs.Pairs.{refusal_of, outcome_of}
 use Rattle.pairs.proofs.ReadLaws.{all_read, closer-left, all-faulty}
 use Rattle.pairs.proofs.reading.nested.Goals as goal
 
-pub overflow_mul-at : goal.overflow_mul-at
-overflow_mul-at c =
+pub returns-in_err-all : goal.returns-in_err-all
+returns-in_err-all c =
+    let (e, is, same) = err_from_is_err_and c.from_residual.result c.from_residual.ensures.1 in
+    ap outcome_of is ∙ ap refusal_of same ∙ all-faulty (kinds_of c.args.numbers.now) _ c.in_err-all.ensures.0
+
+pub overflow_mul-all : goal.overflow_mul-all
+overflow_mul-all c =
     let e = records-count c.args.numbers.now c.requires in
-    let ends = c.in-Upto.ensures.1 in
+    let ends = c.in_ok-all.ensures.1 in
     search rules
 
-pub returns-then-at-numbers : goal.returns-then-at-numbers
-returns-then-at-numbers c =
+pub returns-then-all-numbers : goal.returns-then-all-numbers
+returns-then-all-numbers c =
     let ns = c.args.numbers.now in
-    all_read (kinds_of ns) _ _ (index-at-end ns _ c.requires c.if-at-numbers.true) c.in-Upto.ensures.0
+    let ends = c.in_ok-all.ensures.1 in
+    closer-left (kinds_of ns) _ _ (index-inside ns _ c.requires c.if-all-numbers.true) ends c.in_ok-all.ensures.0
 
-pub returns-else-at-numbers : goal.returns-else-at-numbers
-returns-else-at-numbers c =
+pub returns : goal.returns
+returns c =
     let ns = c.args.numbers.now in
-    let ends = c.in-Upto.ensures.1 in
-    closer-left (kinds_of ns) _ _ (index-before ns _ c.requires ends.1 c.if-at-numbers.false) ends c.in-Upto.ensures.0
-
-pub returns-in-TooDeep : goal.returns-in-TooDeep
-returns-in-TooDeep c = all-faulty (kinds_of c.args.numbers.now) _ c.in-TooDeep.ensures.0
-
-pub returns-in-WrongCloser : goal.returns-in-WrongCloser
-returns-in-WrongCloser c = all-faulty (kinds_of c.args.numbers.now) _ c.in-WrongCloser.ensures.0
-
-pub returns-in-LeftOpen : goal.returns-in-LeftOpen
-returns-in-LeftOpen c = all-faulty (kinds_of c.args.numbers.now) _ c.in-LeftOpen.ensures.0
+    let past = index-past ns _ c.requires c.if-all-numbers.false in
+    all_read (kinds_of ns) _ _ (omega (arith, past, c.in_ok-all.ensures.1.1)) c.in_ok-all.ensures.0
