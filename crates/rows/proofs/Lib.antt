@@ -1,4 +1,3 @@
-pub mod DigitLaws
 pub mod OutLaws
 pub mod RecordLaws
 pub mod Theorems

@@ -27,9 +27,11 @@ module _ (row : List ℕ) (at b : ℕ) where
       let l : at + 1 ≤ length row = omega arith in
       rw (lt-ltb at (length row) h) (refl, sym (min-eq_left l))
 
-  pub byte-nowhere : length row ≤ at → length row ≡ 0 → Gives (one_more row at b) row 0
+  pub byte-nowhere : at ≤ length row → length row ≡ 0 → Gives (one_more row at b) row at
   unfolding one_more
-  byte-nowhere h e = rw (le-ltb at (length row) h) (sym (set_out row 0 b (omega arith)), ap (min 1) (sym e))
+  byte-nowhere h e =
+      let none : at ≡ 0 = omega arith in
+      rw (le-ltb at (length row) (omega arith)) (sym (set_out row 0 b (omega arith)), none ∙ ap (min 1) (sym e))
 
   pub byte-in-front : length row ≤ at → 0 < length row → Gives (one_more row at b) (set row 0 b) 1
   unfolding one_more

@@ -1,8 +1,10 @@
 -- The record that starts at a row's beginning: its offset and its text's length, 4 bytes each with the lowest first, then the text.
 -- Assumes nothing.
-use Rattle.std.specs.Prelude.{ℕ, ◌+◌, ◌*◌, cond, List, ltb, length, get_or}
-use Rattle.rows.specs.declared.input.Found.{Found}
-use Rattle.rows.specs.declared.input.Found.TheVariants.{Text, Short, Bad}
+use Rattle.std.specs.Prelude.{ℕ, ◌+◌, ◌*◌, cond, List, ltb, length, get_or, Ok, Err}
+use Rattle.std.specs.declared.result.Result.{Result}
+use Rattle.rows.specs.declared.input.Text.{Text}
+use Rattle.rows.specs.declared.input.NoText.{NoText}
+use Rattle.rows.specs.declared.input.NoText.TheVariants.{Short, Bad}
 
 abbrev pub number_at : List ℕ → ℕ → ℕ
 number_at row at =
@@ -13,8 +15,8 @@ abbrev pub longest_record : ℕ
 longest_record = 65536
 
 -- with so many bytes in all
-abbrev pub whole : List ℕ → ℕ → Found
-whole row end = cond (ltb (length row) end) (Short end) (Text (number_at row 0) 8 end)
+abbrev pub whole : List ℕ → ℕ → Result Text NoText
+whole row end = cond (ltb (length row) end) (Err (Short end)) (Ok (record { offset = number_at row 0; start = 8; end = end }))
 
-unfoldable pub record_at : List ℕ → Found
-record_at row = cond (ltb (length row) 8) (Short 8) (cond (ltb longest_record (number_at row 4)) Bad (whole row (8 + number_at row 4)))
+unfoldable pub record_at : List ℕ → Result Text NoText
+record_at row = cond (ltb (length row) 8) (Err (Short 8)) (cond (ltb longest_record (number_at row 4)) (Err Bad) (whole row (8 + number_at row 4)))

@@ -1,7 +1,5 @@
-// Rows of bytes that the programs lend: what is printed is gathered in one (`out`, `numbers`), and what is read stands in another
-// (`input`).
+// Rows of bytes that the programs lend: what is printed is gathered in one (`out`), and what is read stands in another (`input`).
 #![tactic(auto)]
 
 pub mod input;
-pub mod numbers;
 pub mod out;

@@ -1,18 +1,92 @@
 // What is printed, gathered in a row of bytes that is written whenever it is full: a call of the system for each piece would cost
-// more than the lexing. `at` is how many bytes of the row are filled; what puts something there answers the new number. A number
-// beyond the row counts as no bytes, and a row of no bytes prints nothing. What cannot be written is told on standard error and is
-// lost, so that each call answers as if it were written.
+// more than the lexing. A row of no bytes prints nothing. What cannot be written is told on standard error and is lost, so that each
+// call answers as if it were written.
 ghost use Rattle.std.specs.Prelude.{◌≡◌};
 ghost use Rattle.rows.specs.Counts.{IsPrefixLen};
 ghost use Rattle.rows.specs.Out.{Within, Gives, filled_of, one_more, more};
 
-use std::str;
+use std::fmt::{Display, Write};
+use std::{fmt, str};
 
-// Writes the filled bytes, and tells where they cannot be written.
-pub fn flush(rt: &(impl Print + Eprint), row: &[u8], at: usize) {
-    let n = filled(row, at);
-    if rt.write_all(&row[..n]).is_err() {
-        complain(rt, b"standard output cannot be written\n");
+// The row, of which the first `filled` bytes are filled. It is no `Drop`: only `finish` ends it, so that nothing which is put is forgotten.
+pub struct Out<'a, P: Print + Eprint> {
+    rt: &'a P,
+    row: &'a mut [u8],
+    filled: usize,
+    ghost within: { Within row.now filled },
+}
+
+impl<'a, P: Print + Eprint> Out<'a, P> {
+    // So many bytes of the row are filled: a number beyond it counts as none.
+    pub fn new(rt: &'a P, row: &'a mut [u8], at: usize) -> Out<'a, P>
+        ensures same_reference { result.row.ghost_name ≡ row.entry.ghost_name }
+        ensures row { result.row.now ≡ row.old }
+        ensures filled { result.filled ≡ filled_of row.old at }
+    {
+        let filled = filled(row, at);
+        Out { rt, row, filled }
+    }
+
+    // Writes the filled bytes.
+    pub fn finish(self) {
+        self.write_filled();
+        let Out {
+            rt: _,
+            row: _,
+            filled: _,
+        } = self;
+    }
+
+    // Where they cannot be written, that is told.
+    fn write_filled(&self) {
+        if self.rt.write_all(&self.row[..self.filled]).is_err() {
+            complain(self.rt, b"standard output cannot be written\n");
+        }
+    }
+
+    pub fn put_byte(&mut self, b: u8)
+        ensures same_reference { self.new.row.ghost_name ≡ self.old.row.ghost_name }
+        ensures gives { Gives (one_more self.old.row.now self.old.filled b) self.new.row.now self.new.filled }
+    {
+        if self.filled < self.row.len() {
+            self.row[self.filled] = b;
+            self.filled += 1;
+            return;
+        }
+        self.write_filled();
+        if self.row.len() == 0 {
+            return;
+        }
+        self.row[0] = b;
+        self.filled = 1;
+    }
+
+    pub fn put(&mut self, text: &[u8])
+        ensures same_reference { self.new.row.ghost_name ≡ self.old.row.ghost_name }
+        ensures gives { Gives (more self.old.row.now self.old.filled text.now) self.new.row.now self.new.filled }
+    {
+        for &b in text {
+            self.put_byte(b);
+        }
+    }
+
+    // What `print!(out; ..)` calls. The row takes everything, so that nothing fails.
+    pub fn print(&mut self, what: impl Display + Drop) {
+        let _told = self.write(what);
+    }
+
+    // What `println!(out; ..)` calls.
+    pub fn println(&mut self, what: impl Display + Drop) {
+        let _told = self.writeln(what);
+    }
+}
+
+impl<P: Print + Eprint> Write for Out<'_, P> {
+    ghost write_str_gives = { λ s bytes t. (t.row.ghost_name ≡ s.row.ghost_name) × Gives (more s.row.now s.filled bytes) t.row.now t.filled };
+
+    fn write_str(&mut self, s: &str) -> fmt::Result {
+        self.put(s.as_bytes());
+        Ok(())
     }
 }
 
@@ -22,35 +96,6 @@ pub fn complain(rt: &impl Eprint, what: &[u8]) {
         Ok(text) => rt.eprint(text),
         Err(_) => rt.eprint(what.escape_ascii()),
     };
-}
-
-pub fn put_byte(rt: &(impl Print + Eprint), row: &mut [u8], at: usize, b: u8) -> usize
-    ensures gives { Gives (one_more row.old at b) row.new result }
-    ensures within { Within row.new result }
-{
-    if at < row.len() {
-        row[at] = b;
-        return at + 1;
-    }
-    flush(rt, row, at);
-    if row.len() == 0 {
-        return 0;
-    }
-    row[0] = b;
-    1
-}
-
-pub fn put(rt: &(impl Print + Eprint), row: &mut [u8], at: usize, text: &[u8]) -> usize
-    ensures gives { Gives (more row.old (filled_of row.old at) text.now) row.new result }
-    ensures within { Within row.new result }
-{
-    let mut end = filled(row, at);
-    let mut i = 0;
-    while i < text.len() {
-        end = put_byte(rt, row, end, text[i]);
-        i += 1;
-    }
-    end
 }
 
 // How many bytes are filled.
