@@ -1,11 +1,9 @@
 -- A token that is printed leads on in the part. Assumes nothing.
 use Prim.Native.Nat.{ℕ, ◌+◌, ◌-◌, ◌≤◌, ◌<◌}
-use native.Mathlib.Omega.{arith}
 use mathlib.Core.Path.{◌≡◌, refl, sym, ◌∙◌}
 use mathlib.Core.Bool.{true}
 use mathlib.Core.List.{List}
-use lib.ListN.{length, take, drop, length-drop}
-use lib.Seq.{length-take-le}
+use lib.ListN.{length}
 use Rattle.intake.specs.declared.state.Stream.{Stream}
 use Rattle.stream.specs.declared.stream.Given.{Given}
 use Rattle.stream.specs.declared.stream.Answer as A
@@ -24,14 +22,10 @@ told-alike (Closed next) = refl
 told-alike (TooLong next) = refl
 told-alike (LexemeTooLong next) = refl
 
--- from a place in a part of so many bytes on
-abbrev pub LeadsOn : Stream → ℕ → ℕ → Given → Type 0
-LeadsOn s all from g = (from + g.taken ≤ all) × (all - (from + g.taken) + held_behind g.stream < all - from + held_behind s)
+-- fewer bytes are left, of the part and of those held
+abbrev pub LeadsOn : Stream → List ℕ → Given → Type 0
+LeadsOn s part g = (g.taken ≤ length part) × (length part - g.taken + held_behind g.stream < length part + held_behind s)
 
-pub leads-on : (s : Stream) (row part : List ℕ) (from : ℕ) (g : Given) (new : List ℕ) → from ≤ length part
-    → Offered s row (take (length part - from) (drop from part)) g new → is_token g.answer ≡ true → LeadsOn s (length part) from g
-leads-on s row part from g new l h t =
-    let rest = take (length part - from) (drop from part) in
-    let left : length rest ≡ length part - from = length-take-le (length part - from) (drop from part) (omega (arith, length-drop from part)) in
-    let (inside, less) = leads s row rest g new h (sym (told-alike g.answer) ∙ t) in
-    (omega arith, omega arith)
+pub leads-on : (s : Stream) (row part : List ℕ) (g : Given) (new : List ℕ) → Offered s row part g new → is_token g.answer ≡ true
+    → LeadsOn s part g
+leads-on s row part g new h t = leads s row part g new h (sym (told-alike g.answer) ∙ t)

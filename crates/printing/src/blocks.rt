@@ -1,126 +1,96 @@
 // What the answers print, with an empty line behind each.
-ghost use Rattle.std.specs.Prelude.{◌≤◌};
-ghost use Rattle.rows.specs.Counts.{IsPrefixLen};
-ghost use Rattle.rows.specs.Out.{Within};
-
-use crate::answers::{Way, put_cut, put_list, put_list_part, put_walk, put_word};
+use crate::answers::{Source, Way, put_listed, put_listed_part, put_numbers, put_walk};
+use crate::lines::{put_line, refusal_name};
 use crate::streams::put_stream;
+use cuts::{Statement, cut};
 use grammar::profile::Profile;
-use rows::out::put_byte;
+use lexer::cursor::Cursor;
+use lists::list::list;
+use lists::part::list_part;
+use names::name_of;
+use rows::out::Out;
+use words::lookup::{is_quotable_keyword, keyword_or_id_token};
 
-pub fn put_walk_block(
-    rt: &(impl Print + Eprint),
-    out: &mut [u8],
-    at: usize,
-    names: &[u8; 2992],
-    text: &[u8],
-    offset: usize,
-    way: Way,
-    profile: Profile,
-) -> usize
-    ensures { Within out.new result }
-{
-    let end = put_walk(rt, out, at, names, text, offset, way, profile);
-    put_byte(rt, out, end, b'\n')
+pub fn put_walk_block(out: &mut Out<'_, impl Print + Eprint>, source: Source, way: Way) {
+    put_walk(out, source, way);
+    println!(out;);
 }
 
-// A list into the first n numbers, or into all where there are fewer.
+// A list into the first n numbers, or into all where there are fewer. They are printed in one line, which shows also those that `list`
+// leaves as they were: each is 4294967295 before.
 pub fn put_list_block(
-    rt: &(impl Print + Eprint),
-    out: &mut [u8],
-    at: usize,
-    text: &[u8],
-    offset: usize,
-    profile: Profile,
+    out: &mut Out<'_, impl Print + Eprint>,
+    source: Source,
     numbers: &mut [u32],
     n: usize,
-) -> usize
-    ensures { Within out.new result }
-{
-    let lent = first(numbers, n);
-    let end = put_list(rt, out, at, text, offset, profile, &mut numbers[..lent]);
-    put_byte(rt, out, end, b'\n')
+) {
+    let lent = n.min(numbers.len());
+    let numbers = &mut numbers[..lent];
+    numbers.fill(u32::MAX);
+    let start = Cursor { at: source.offset };
+    let listed = list(source.text, start, source.profile, numbers);
+    put_numbers(out, numbers);
+    put_listed(out, listed);
+    println!(out;);
 }
 
 // A slice of a list without TK_NONE, into as many.
 pub fn put_part_block(
-    rt: &(impl Print + Eprint),
-    out: &mut [u8],
-    at: usize,
-    text: &[u8],
-    offset: usize,
-    profile: Profile,
+    out: &mut Out<'_, impl Print + Eprint>,
+    source: Source,
     allowance: u32,
     numbers: &mut [u32],
     n: usize,
-) -> usize
-    ensures { Within out.new result }
-{
-    let lent = first(numbers, n);
-    let end = put_list_part(
-        rt,
-        out,
-        at,
-        text,
-        offset,
-        profile,
-        allowance,
-        &mut numbers[..lent],
-    );
-    put_byte(rt, out, end, b'\n')
+) {
+    let lent = n.min(numbers.len());
+    let numbers = &mut numbers[..lent];
+    numbers.fill(u32::MAX);
+    let start = Cursor { at: source.offset };
+    let part = list_part(source.text, start, source.profile, allowance, numbers);
+    put_numbers(out, numbers);
+    put_listed_part(out, part);
+    println!(out;);
 }
 
-// How many numbers the first n are, where there may be fewer.
-pub fn first(numbers: &[u32], n: usize) -> usize
-    ensures { IsPrefixLen result numbers.now }
-{
-    least(n, numbers.len())
+// CUT, the span, whether it has a token that counts, and the offset; or OPEN or END, the span and the offset; or the refusal.
+pub fn put_cut_block(out: &mut Out<'_, impl Print + Eprint>, source: Source) {
+    let start = Cursor { at: source.offset };
+    match cut(source.text, start, source.profile) {
+        Statement::Cut {
+            start,
+            length,
+            any,
+            next,
+        } => put_line(out, "CUT", &[start, length, usize::from(any), next.at]),
+        Statement::Open {
+            start,
+            length,
+            next,
+        } => put_line(out, "OPEN", &[start, length, next.at]),
+        Statement::End { next } => put_line(out, "END", &[next.at, 0, next.at]),
+        Statement::Refused {
+            why,
+            start,
+            length,
+            next,
+        } => put_line(out, refusal_name(why), &[start, length, next.at]),
+    }
+    println!(out;);
 }
 
-pub(crate) fn least(a: usize, b: usize) -> usize
-    ensures { (result ≤ a) × (result ≤ b) }
-{
-    if a < b { a } else { b }
-}
-
-pub fn put_cut_block(
-    rt: &(impl Print + Eprint),
-    out: &mut [u8],
-    at: usize,
-    text: &[u8],
-    offset: usize,
-    profile: Profile,
-) -> usize
-    ensures { Within out.new result }
-{
-    let end = put_cut(rt, out, at, text, offset, profile);
-    put_byte(rt, out, end, b'\n')
-}
-
-pub fn put_word_block(
-    rt: &(impl Print + Eprint),
-    out: &mut [u8],
-    at: usize,
-    names: &[u8; 2992],
-    word: &[u8],
-) -> usize
-    ensures { Within out.new result }
-{
-    let end = put_word(rt, out, at, names, word);
-    put_byte(rt, out, end, b'\n')
+// The kind's name, and 1 where `is_quotable_keyword` holds, else 0.
+pub fn put_word_block(out: &mut Out<'_, impl Print + Eprint>, word: &[u8]) {
+    let name = name_of(keyword_or_id_token(word));
+    put_line(out, name, &[usize::from(is_quotable_keyword(word))]);
+    println!(out;);
 }
 
 pub fn put_stream_block(
-    rt: &(impl Print + Eprint),
-    out: &mut [u8],
-    at: usize,
-    names: &[u8; 2992],
+    out: &mut Out<'_, impl Print + Eprint>,
     script: &[u8],
     profile: Profile,
     held: &mut [u8; 2050],
-) -> usize
-    ensures { Within out.new result }
-{
-    let end = put_stream(rt, out, at, names, script, profile, held);
-    put_byte(rt, out, end, b'\n')
+) {
+    put_stream(out, script, profile, held);
+    println!(out;);
 }

@@ -1,178 +1,110 @@
 // The input, read in pieces as large as the row of bytes allows, and its records.
-ghost use Rattle.std.specs.Prelude.{◌≡◌, ◌+◌, ◌≤◌, length};
-ghost use Rattle.printing.specs.Rows.{Inside, Holds};
+ghost use Rattle.std.specs.Prelude.{◌≡◌, ◌-◌, length};
+ghost use Rattle.printing.specs.Rows.{Holds};
 
-use rows::input::{Found, record_at};
+use rows::input::{NoText, Text, record_at};
 use rows::out::complain;
 use std::io::Read;
 
-// The bytes of the row that are read and not used yet: from one place to before another. `failed`: a read failed behind them.
-#[derive(Clone, Copy)]
-pub struct Unread {
-    pub from: usize,
-    pub to: usize,
-    pub failed: bool,
+// The row that the input is read into: from `start` to `end` it has the text of the record that was read last, and from there to `to`
+// what is read and not used yet.
+#[derive(Drop)]
+pub struct Records<'a> {
+    row: &'a mut [u8],
+    start: usize,
+    end: usize,
+    to: usize,
+    ghost holds: { Holds row.now start end to },
 }
 
-// What one read gives: so many bytes, none at the end of the input and where it failed.
+// Over: the input ends where a record would start. Short: a record of at least so many bytes is cut off. Bad: its text is longer than
+// allowed, or the input cannot be read, which is told at once.
 #[derive(Clone, Copy)]
-struct Got {
-    bytes: usize,
-    failed: bool,
-}
-
-// Text: where in the row it stands, and up to where the row is read. Over: the input ends where a record would start. Short: a record
-// of at least so many bytes is cut off. Bad: its text is longer than allowed, or the input cannot be read.
-#[derive(Clone, Copy)]
-pub enum Record {
-    Text {
-        offset: usize,
-        start: usize,
-        end: usize,
-        to: usize,
-    },
+pub enum NoRecord {
     Over,
     Short(usize),
     Bad,
 }
 
-fn move_to_front(row: &mut [u8], from: usize, n: usize)
-    requires { from + n ≤ length row.old }
-    ensures { length row.new ≡ length row.old }
-{
-    let mut i = 0;
-    while i < n {
-        row[i] = row[from + i];
-        i += 1;
-    }
-}
-
-// One read behind the filled part.
-fn read_behind(input: &mut impl Read, row: &mut [u8], filled: usize) -> Got
-    requires { filled ≤ length row.old }
-    ensures { filled + result.bytes ≤ length row.new }
-{
-    match input.read(&mut row[filled..]) {
-        Ok(bytes) => Got {
-            bytes,
-            failed: false,
-        },
-        Err(_) => Got {
-            bytes: 0,
-            failed: true,
-        },
-    }
-}
-
-// Behind so many bytes the input cannot be read, which is told at once.
-fn broken_off(rt: &impl Eprint, filled: usize) -> Unread
-    ensures { (result.from ≡ 0) × (result.to ≡ filled) }
-{
-    complain(rt, b"standard input cannot be read\n");
-    Unread {
-        from: 0,
-        to: filled,
-        failed: true,
-    }
-}
-
-// At least n unread bytes, or all that the input still has and the row holds.
-pub(crate) fn fill(
-    rt: &impl Eprint,
-    input: &mut impl Read,
-    row: &mut [u8],
-    unread: Unread,
-    n: usize,
-) -> Unread
-    requires { Inside row.old unread }
-    ensures { Inside row.new result }
-{
-    let from = unread.from;
-    let mut filled = unread.to - from;
-    if n <= filled {
-        return unread;
-    }
-    move_to_front(row, from, filled);
-    while filled < n {
-        let more = read_behind(input, row, filled);
-        if more.failed {
-            return broken_off(rt, filled);
-        }
-        if more.bytes == 0 {
-            break;
-        }
-        filled += more.bytes;
-    }
-    Unread {
-        from: 0,
-        to: filled,
-        failed: false,
-    }
-}
-
-// What lies in the row, or nothing.
-fn inside(row: &[u8], unread: Unread) -> Unread
-    ensures { Inside row.now result }
-{
-    if unread.from <= unread.to {
-        if unread.to <= row.len() {
-            return unread;
+impl From<NoText> for NoRecord {
+    fn from(why: NoText) -> NoRecord {
+        match why {
+            NoText::Short(n) => NoRecord::Short(n),
+            NoText::Bad => NoRecord::Bad,
         }
     }
-    unread_none()
 }
 
-// Nothing is read yet.
-pub fn unread_none() -> Unread
-    ensures { (result.from ≡ 0) × (result.to ≡ 0) }
-{
-    Unread {
-        from: 0,
-        to: 0,
-        failed: false,
+impl<'a> Records<'a> {
+    // The bytes from one place to before another are read and not used yet: none where they do not lie in the row.
+    pub fn new(row: &'a mut [u8], from: usize, to: usize) -> Records<'a> {
+        if from <= to && to <= row.len() {
+            return Records {
+                row,
+                start: from,
+                end: from,
+                to,
+            };
+        }
+        Records {
+            row,
+            start: 0,
+            end: 0,
+            to: 0,
+        }
     }
-}
 
-// The record that the unread bytes begin with.
-fn found_in(row: &[u8], unread: Unread) -> Record
-    requires { Inside row.now unread }
-    ensures { Holds row.now result }
-{
-    let from = unread.from;
-    let to = unread.to;
-    match record_at(&row[from..to]) {
-        Found::Text { offset, start, end } => Record::Text {
-            offset,
-            start: from + start,
-            end: from + end,
-            to,
-        },
-        Found::Short(n) => Record::Short(n),
-        Found::Bad => Record::Bad,
+    // The text of the record that was read last.
+    pub fn text(&self) -> &[u8] {
+        &self.row[self.start..self.end]
     }
-}
 
-// The next record. Unread bytes that do not lie in the row count as none.
-pub fn read_record(
-    rt: &impl Eprint,
-    input: &mut impl Read,
-    row: &mut [u8],
-    unread: Unread,
-) -> Record
-    ensures { Holds row.new result }
-{
-    let kept = inside(row, unread);
-    let head = fill(rt, input, row, kept, 8);
-    if head.failed {
-        return Record::Bad;
+    // What is read and not used yet.
+    pub fn unread(&self) -> &[u8]
+        ensures { length result.now ≡ self.now.to - self.now.end }
+    {
+        &self.row[self.end..self.to]
     }
-    if head.from == head.to {
-        return Record::Over;
+
+    // Reads on, up to n unread bytes, or all that the input still has and the row holds.
+    pub(crate) fn fill(
+        &mut self,
+        rt: &impl Eprint,
+        input: &mut impl Read,
+        n: usize,
+    ) -> Result<(), NoRecord> {
+        if n <= self.to - self.end {
+            return Ok(());
+        }
+        self.row.copy_within(self.end..self.to, 0);
+        self.to -= self.end;
+        self.start = 0;
+        self.end = 0;
+        while self.to < n {
+            match input.read(&mut self.row[self.to..]) {
+                Ok(0) => break,
+                Ok(more) => self.to += more,
+                Err(_) => {
+                    complain(rt, b"standard input cannot be read\n");
+                    return Err(NoRecord::Bad);
+                }
+            }
+        }
+        Ok(())
     }
-    let found = found_in(row, head);
-    let Record::Short(n) = found else {
-        return found;
-    };
-    let whole = fill(rt, input, row, head, n);
-    found_in(row, whole)
+
+    // Reads the next record, and gives its offset.
+    pub fn next(&mut self, rt: &impl Eprint, input: &mut impl Read) -> Result<usize, NoRecord> {
+        self.fill(rt, input, 8)?;
+        if self.unread().is_empty() {
+            return Err(NoRecord::Over);
+        }
+        if let Err(NoText::Short(n)) = record_at(self.unread()) {
+            self.fill(rt, input, n)?;
+        }
+        let Text { offset, start, end } = record_at(self.unread())?;
+        self.start = self.end + start;
+        self.end += end;
+        Ok(offset)
+    }
 }

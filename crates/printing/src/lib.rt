@@ -1,5 +1,4 @@
-// What the programs print: `text` what `sqllex` does. Below it `input` reads the records, `kinds` has the kinds' names, `lines`, `answers`
-// and `blocks` say what is printed of a text, `replay` does so in several ways, and `streams` says what is printed of a stream's calls.
+// What the programs print: `text` what `sqllex` does. Below it `input` reads the records, `lines`, `answers` and `blocks` say what is printed of a text, `replay` does so in several ways, and `streams` says what is printed of a stream's calls.
 // What is printed is gathered in a row of the crate `rows`. The crate `batch` above prints what `sqlbatch` and `replay` do.
 #![tactic(auto)]
 
@@ -9,8 +8,7 @@ use records::WIDTH;
 pub mod answers;
 pub mod blocks;
 pub mod input;
-pub mod kinds;
-mod lines;
+pub mod lines;
 pub mod replay;
 mod streams;
 pub mod text;

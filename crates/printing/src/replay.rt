@@ -1,96 +1,47 @@
 // One text walked with the tokens' digits and underscores, by `next` and by a reader, listed and cut. A list answers otherwise where it has
 // no room for the text's records, so it is made at several lengths.
 ghost use Rattle.std.specs.Prelude.{◌≤◌};
-ghost use Rattle.rows.specs.Out.{Within};
 
 use crate::MOST;
-use crate::answers::Way;
-use crate::blocks::{first, least, put_cut_block, put_list_block, put_walk_block};
-use grammar::profile::Profile;
+use crate::answers::{Source, Way};
+use crate::blocks::{put_cut_block, put_list_block, put_walk_block};
 use lexer::cursor::Cursor;
 use lists::list::{LONGEST_TEXT, Listed, list};
 use records::WIDTH;
+use rows::out::Out;
 
 // Lists of fewer numbers than these have no record, one or two, and some numbers over.
 const FEW: usize = 2 * WIDTH + 2;
 
-pub fn put_replay(
-    rt: &(impl Print + Eprint),
-    out: &mut [u8],
-    at: usize,
-    names: &[u8; 2992],
-    text: &[u8],
-    offset: usize,
-    profile: Profile,
-    numbers: &mut [u32],
-) -> usize
-    ensures { Within out.new result }
-{
-    let walked = put_walk_block(rt, out, at, names, text, offset, Way::Sums, profile);
-    let read = put_walk_block(rt, out, walked, names, text, offset, Way::Reader, profile);
-    let small = put_small(rt, out, read, text, offset, profile, numbers);
-    let near = put_near(rt, out, small, text, offset, profile, numbers);
-    put_cut_block(rt, out, near, text, offset, profile)
-}
-
-fn put_small(
-    rt: &(impl Print + Eprint),
-    out: &mut [u8],
-    at: usize,
-    text: &[u8],
-    offset: usize,
-    profile: Profile,
-    numbers: &mut [u32],
-) -> usize
-    ensures { Within out.new result }
-{
-    let mut end = put_list_block(rt, out, at, text, offset, profile, numbers, 0);
-    let mut n = 1;
-    while n < FEW {
-        end = put_list_block(rt, out, end, text, offset, profile, numbers, n);
-        n += 1;
+pub fn put_replay(out: &mut Out<'_, impl Print + Eprint>, source: Source, numbers: &mut [u32]) {
+    put_walk_block(out, source, Way::Sums);
+    put_walk_block(out, source, Way::Reader);
+    for n in 0..FEW {
+        put_list_block(out, source, numbers, n);
     }
-    end
+    put_near(out, source, numbers);
+    put_cut_block(out, source);
 }
 
 // Lists of one number too few for the text's records, of just enough, and of four more.
-fn put_near(
-    rt: &(impl Print + Eprint),
-    out: &mut [u8],
-    at: usize,
-    text: &[u8],
-    offset: usize,
-    profile: Profile,
-    numbers: &mut [u32],
-) -> usize
-    ensures { Within out.new result }
-{
-    let full = WIDTH * records(text, offset, profile, numbers);
-    let short = put_list_block(rt, out, at, text, offset, profile, numbers, before(full));
-    let exact = put_list_block(rt, out, short, text, offset, profile, numbers, full);
-    put_list_block(rt, out, exact, text, offset, profile, numbers, full + 4)
+fn put_near(out: &mut Out<'_, impl Print + Eprint>, source: Source, numbers: &mut [u32]) {
+    let full = WIDTH * records(source, numbers);
+    put_list_block(out, source, numbers, full.saturating_sub(1));
+    put_list_block(out, source, numbers, full);
+    put_list_block(out, source, numbers, full + 4);
 }
 
-fn before(n: usize) -> usize {
-    if n == 0 { 0 } else { n - 1 }
-}
-
-// How many records the text has in a list with room for any. They are no more than the longest text has bytes; `least` says so to the
-// sums above.
-fn records(text: &[u8], offset: usize, profile: Profile, numbers: &mut [u32]) -> usize
+// How many records the text has in a list with room for any. They are no more than the longest text has bytes; `min` says so to the sums
+// above.
+fn records(source: Source, numbers: &mut [u32]) -> usize
     ensures { result ≤ 65535 }
 {
-    let lent = first(numbers, MOST);
-    match list(text, Cursor { at: offset }, profile, &mut numbers[..lent]) {
-        Listed::End { records, next: _ } => least(records, LONGEST_TEXT),
-        Listed::Refused {
-            why: _,
-            start: _,
-            length: _,
-            records,
-            next: _,
-        } => least(records, LONGEST_TEXT),
-        Listed::TooLong { next: _ } => 0,
-        Listed::ListFull { records, next: _ } => least(records, LONGEST_TEXT),
+    let lent = MOST.min(numbers.len());
+    let start = Cursor { at: source.offset };
+    match list(source.text, start, source.profile, &mut numbers[..lent]) {
+        Listed::End { records, .. }
+        | Listed::Refused { records, .. }
+        | Listed::ListFull { records, .. } => records.min(LONGEST_TEXT),
+        Listed::TooLong { .. } => 0,
     }
 }

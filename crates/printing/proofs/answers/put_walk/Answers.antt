@@ -15,15 +15,15 @@ advances π s at e h = moves π s at _ _ _ _ _ _ (subst (LexesUnder π s at) e h
 
 pub overflow_add-tokens : goal.overflow_add-tokens
 overflow_add-tokens g c =
-    let h = advances c.args.profile c.args.text.now c.loop-kind.cursor.at c.in-Token.is c.lexed_at.ensures in
+    let h = advances c.args.source.profile c.args.source.text.now c.loop-kind.cursor.at c.in-Token.is c.lexed_at.ensures in
     search rules
 
 pub loop-kind-smaller : goal.loop-kind-smaller
 loop-kind-smaller g c =
-    let h = advances c.args.profile c.args.text.now c.loop-kind.cursor.at c.in-Token.is c.lexed_at.ensures in
+    let h = advances c.args.source.profile c.args.source.text.now c.loop-kind.cursor.at c.in-Token.is c.lexed_at.ensures in
     omega arith
 
 pub loop-kind-preserved : goal.loop-kind-preserved
 loop-kind-preserved g c =
-    let h = advances c.args.profile c.args.text.now c.loop-kind.cursor.at c.in-Token.is c.lexed_at.ensures in
+    let h = advances c.args.source.profile c.args.source.text.now c.loop-kind.cursor.at c.in-Token.is c.lexed_at.ensures in
     omega arith

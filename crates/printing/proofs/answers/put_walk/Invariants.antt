@@ -6,4 +6,4 @@ abbrev pub invariant-loop-kind : goal.invariant-loop-kind
 invariant-loop-kind g l = l.tokens ≤ l.cursor.at
 
 abbrev pub decreases-loop-kind : goal.decreases-loop-kind
-decreases-loop-kind g l = length l.text - l.cursor.at
+decreases-loop-kind g l = length l.source.text.now - l.cursor.at
