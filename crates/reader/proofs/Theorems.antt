@@ -8,12 +8,12 @@ use mathlib.Core.List.{List, [], ◌∷◌}
 use mathlib.Core.Logic.{inl}
 use lib.ListN.{length, drop, drop_of_length-le}
 use denote.Ref.{Bor}
+use Rattle.std.specs.Prelude.{None}
 use Rattle.grammar.specs.declared.profile.Profile.{Profile}
 use Rattle.grammar.specs.Answers.{Answer, refusal}
 use Rattle.grammar.specs.Longest.{Every}
 use Rattle.grammar.specs.Texts.{Row, offset, table}
 use Rattle.lexer.specs.declared.cursor.Cursor.{Cursor}
-use Rattle.lexer.specs.declared.cursor.Peek.TheVariants.{Nothing}
 use Rattle.lexer.specs.declared.lexed.Lexed.{Lexed}
 use Rattle.lexer.specs.declared.lexed.Lexed.TheVariants.{Token, End, Refused}
 use Rattle.lexer.specs.declared.lexed.Refusal.TheVariants.{OffsetPastEnd}
@@ -58,7 +58,7 @@ remaining-unique text offset r q x y = (λ i. (block i, at i), bytes)
 -- the one given.
 pub past_end : (d : Reader) → length d.text.now < d.offset
     → ((r : Bor (List ℕ)) → Remains d.text d.offset r → r.now ≡ []) ×
-    (head (drop d.offset d.text.now) ≡ Nothing) ×
+    (head (drop d.offset d.text.now) ≡ None) ×
     ((r : Read) → ReadsOn d r → (values_of r.lexed ≡ refusal 8 0 0 d.offset) × (r.reader ≡ d))
 unfolding LexesUnder
 past_end d past = (

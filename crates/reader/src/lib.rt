@@ -1,5 +1,4 @@
-// A reader that carries its text and its profile. Each call takes it apart and asks the by-value core; what moves hands the moved reader
-// back.
+// A reader that carries its text and its profile, over the by-value core; what moves hands the moved reader back.
 #![tactic(auto)]
 
 ghost use Rattle.std.specs.Prelude.{◌≡◌, drop};
@@ -8,7 +7,7 @@ ghost use Rattle.lexer.specs.Values.{LexesUnder};
 ghost use Rattle.reader.specs.Reads.{ReadsOn, Remains, offset_of, begun};
 
 use grammar::profile::Profile;
-use lexer::cursor::{Cursor, Peek};
+use lexer::cursor::Cursor;
 use lexer::lexed::Lexed;
 use lexer::next::next;
 
@@ -42,25 +41,25 @@ impl<'a> Reader<'a> {
     pub fn remaining(self) -> &'a [u8]
         ensures { Remains self.entry.text self.entry.offset result }
     {
-        remaining_at(self.text, self.offset)
+        let start = self.offset.min(self.text.len());
+        &self.text[start..]
     }
 
-    pub fn peek(self) -> Peek
+    pub fn peek(self) -> Option<u8>
         ensures { result ≡ head (drop self.entry.offset self.entry.text.now) }
     {
-        peek_at(self.text, self.offset)
+        Cursor { at: self.offset }.peek(self.text)
     }
 
     pub fn next(self) -> Read<'a>
         ensures { ReadsOn self.entry result }
     {
-        let moved = next_at(self.text, self.offset, self.profile);
+        let lexed = next(self.text, Cursor { at: self.offset }, self.profile);
         Read {
-            lexed: moved.lexed,
+            lexed,
             reader: Reader {
-                text: self.text,
-                offset: moved.offset,
-                profile: self.profile,
+                offset: lexed.next().at,
+                ..self
             },
         }
     }
@@ -70,66 +69,10 @@ impl<'a> Reader<'a> {
 pub fn read_at(text: &[u8], offset: usize, profile: Profile) -> Lexed
     ensures { LexesUnder profile text.now offset result }
 {
-    let read = Reader {
+    let reader = Reader {
         text,
         offset,
         profile,
-    }
-    .next();
-    read.lexed
-}
-
-fn remaining_at(text: &[u8], offset: usize) -> &[u8]
-    ensures { Remains text.entry offset result }
-{
-    let end = text.len();
-    if offset < end {
-        return &text[offset..];
-    }
-    &text[end..]
-}
-
-fn peek_at(text: &[u8], offset: usize) -> Peek
-    ensures { result ≡ head (drop offset text.now) }
-{
-    Cursor { at: offset }.peek(text)
-}
-
-// An answer, and the offset that it leaves.
-#[derive(Clone, Copy)]
-struct Moved {
-    lexed: Lexed,
-    offset: usize,
-}
-
-fn next_at(text: &[u8], offset: usize, profile: Profile) -> Moved
-    ensures { LexesUnder profile text.now offset result.lexed × (result.offset ≡ offset_of result.lexed) }
-{
-    let lexed = next(text, Cursor { at: offset }, profile);
-    match lexed {
-        Lexed::Token {
-            kind: _,
-            start: _,
-            length: _,
-            next,
-            digits: _,
-            underscores: _,
-        } => Moved {
-            lexed,
-            offset: next.at,
-        },
-        Lexed::End { next } => Moved {
-            lexed,
-            offset: next.at,
-        },
-        Lexed::Refused {
-            why: _,
-            start: _,
-            length: _,
-            next,
-        } => Moved {
-            lexed,
-            offset: next.at,
-        },
-    }
+    };
+    reader.next().lexed
 }
