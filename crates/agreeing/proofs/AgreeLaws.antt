@@ -27,11 +27,12 @@ use Rattle.lists.specs.Lists.{record_of, records_of, longest_text}
 use Rattle.lists.specs.Lines.{record_on}
 use Rattle.lists.proofs.KeptLaws.{records-append}
 use Rattle.lists.proofs.LinesLaws.{record-made}
-use Rattle.agreeing.specs.declared.Checked.{Checked}
-use Rattle.agreeing.specs.declared.Checked.TheVariants.{TooLong, ListDiffers}
+use Rattle.std.specs.Prelude.{Option, Some, None, Result, Err, ok_or}
+use Rattle.agreeing.specs.declared.CheckError.{CheckError}
+use Rattle.agreeing.specs.declared.CheckError.TheVariants.{TooLong, ListDiffers}
 use Rattle.agreeing.specs.declared.step.Place.{Place}
-use Rattle.agreeing.specs.Agreeing.{same, agreeing, all_agree, accepted, list_differs, verdict, verdict_of, Checks}
-use Rattle.agreeing.specs.Steps.{beginning, own_record, Agrees, Steps, verdict_at, Finishes}
+use Rattle.agreeing.specs.Agreeing.{same, agreeing, all_agree, accepted, list_differs, verdict, Checks}
+use Rattle.agreeing.specs.Steps.{beginning, own_record, Steps, verdict_at, Finishes}
 
 -- five numbers that are the same, and the records that have them
 pub same-is : (r q : Record) → same r q ≡ true → r ≡ q
@@ -161,11 +162,10 @@ module _ {s : Source} {rs : List Record} {i : ℕ} {p : Place} (v : Upto s rs i 
       record-made s at t.kind t.start t.length (t.start + t.length) t.digits t.underscores g
 
   -- a record that agrees
-  pub goes_on : (q : Place) → i < length rs → Steps s p (get_or rs i none) q → q.agrees ≡ true → Upto s rs (i + 1) q
+  pub goes_on : (q : Place) → i < length rs → Steps s p (get_or rs i none) (Some q) → Upto s rs (i + 1) q
   unfolding Steps records_of
-  goes_on q h f g =
+  goes_on q h (t, gives, is, next, here) =
       let r = get_or rs i none in
-      let (t, gives, is, next, here) = subst (λ (b : Bool). Agrees b s p r q) g f in
       let o = told s.profile s.text at t.kind t.start t.length (t.start + t.length) t.digits t.underscores gives in
       let ends : t.start + t.length ≡ at + t.length = ap (λ (a : ℕ). a + t.length) o.starts in
       let one : own (v.passed ++ (t ∷ [])) ≡ own v.passed ++ (r ∷ []) =
@@ -195,16 +195,22 @@ module _ {s : Source} {rs : List Record} {i : ℕ} {p : Place} (v : Upto s rs i 
   differs-here r rest f [] to x = refl
   differs-here r rest f (t ∷ l) to (e, g, o, x) = rw (not_same r (record_of s.text t) (λ z. f t g (own_is t g ∙ z)))
 
-  pub stops : (q : Place) → i < length rs → Steps s p (get_or rs i none) q → q.agrees ≡ false → Checks s rs (ListDiffers i)
+  pub stops : i < length rs → Steps s p (get_or rs i none) None → Checks s rs (Err (ListDiffers i))
   unfolding Steps Checks
-  stops q h f g =
+  stops h f =
       let r = get_or rs i none in
       let w = run s at in
       let a : agreeing rs (own (v.passed ++ w.passed)) ≡ i =
       agreeing-all w.passed (r ∷ drop (suc i) rs) (drop-cons rs i none h) ∙
-      ap (λ (k : ℕ). i + k) (differs-here r (drop (suc i) rs) (subst (λ (b : Bool). Agrees b s p r q) g f) w.passed w.to w.passes) ∙
+      ap (λ (k : ℕ). i + k) (differs-here r (drop (suc i) rs) f w.passed w.to w.passes) ∙
       omega arith in
       inr (v.short, record { walk = all; answers = sym (verdict-not rs (own all.passed) w.there i a (λ p q. omega arith)) })
+
+  -- the same, as `?` passes it on: the fault is what stands for a place that there is none of
+  pub stops-by : (q : Option Place) (fault e : CheckError) → Err fault ≡ ok_or q (ListDiffers i) → e ≡ fault → i < length rs
+      → Steps s p (get_or rs i none) q → Checks s rs (Err e)
+  stops-by None fault e f g h x = let differs : e ≡ ListDiffers i = cc in rw differs (stops h x)
+  stops-by (Some q) fault e f g h x = let z : ◌≡◌ {A = ℕ} 0 1 = cc in absurd (omega arith)
 
   -- behind the last record
   at-end : length rs ≤ i → (there : Answer) → Next s at there → (l : List Legal) (to : ℕ) (last : Answer) → Passes Always s [] at l to
@@ -231,7 +237,7 @@ module _ {s : Source} {rs : List Record} {i : ℕ} {p : Place} (v : Upto s rs i 
       verdict-not rs (own (v.passed ++ (t ∷ l))) last i a (λ y z. omega (arith, v.counts)) ∙
       ap (verdict_at i) (gives-unique (rules s.profile) s.text at (token_of t) there k g)
 
-  pub ends : length rs ≤ i → (r : Checked) → Finishes s at i r → Checks s rs r
+  pub ends : length rs ≤ i → (r : Result (Unit {0}) CheckError) → Finishes s at i r → Checks s rs r
   unfolding Checks
   ends h r f =
       let w = run s at in
@@ -244,6 +250,6 @@ module _ {s : Source} {rs : List Record} {i : ℕ} {p : Place} (v : Upto s rs i 
         },
       )
 
-pub too-long-checks : (s : Source) (rs : List Record) (r : Checked) → r ≡ TooLong → longest_text < length s.text → Checks s rs r
+pub too-long-checks : (s : Source) (rs : List Record) → longest_text < length s.text → Checks s rs (Err TooLong)
 unfolding Checks
-too-long-checks s rs r e h = inl (h, ap verdict_of e)
+too-long-checks s rs h = inl (h, refl)

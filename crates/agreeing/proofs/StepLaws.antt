@@ -1,11 +1,8 @@
 -- A record beside what `next` gives at a place, and what `next` gives behind the last record. Assumes nothing.
-use Prim.Native.Nat.{ℕ, ◌+◌, ◌-◌}
+use Prim.Native.Nat.{ℕ, ◌+◌}
 use mathlib.Core.Path.{◌≡◌, refl, sym, ◌∙◌, ap, subst}
-use mathlib.Core.Bool.{Bool, true, false, true≢false}
-use lib.Dec.{eqb}
+use mathlib.Core.Bool.{true, false, true≢false}
 use lib.Seq.{slice}
-use borrow.Author.Tests.{eq-eqb, ne_eqb}
-use Rattle.keywords.proofs.Logic.{and-false}
 use Rattle.grammar.specs.Classes.{rules}
 use Rattle.grammar.specs.Answers.{token, end, refusal}
 use Rattle.grammar.specs.Longest.{Source, Next}
@@ -15,28 +12,22 @@ use Rattle.lexer.specs.declared.lexed.Lexed.{Lexed}
 use Rattle.lexer.specs.declared.lexed.Lexed.TheVariants.{Token, End as Over, Refused as Bad}
 use Rattle.lexer.specs.Values.{LexesUnder, number_of}
 use Rattle.records.specs.declared.Record.{Record}
-use Rattle.records.specs.Records.{record_of}
 use Rattle.places.specs.declared.Line.{Line}
 use Rattle.places.specs.Lines.{line_over}
 use Rattle.walks.specs.Walk.{token_of}
 use Rattle.walks.proofs.WalkLaws.{legal, legal_of, is-legal, token-told, end-no-token, refusal-no-token}
 use Rattle.lists.specs.Lines.{record_on}
-use Rattle.agreeing.specs.declared.Checked.TheVariants.{Accepted, ListDiffers}
+use Rattle.std.specs.Prelude.{Some, None, Ok, Err}
+use Rattle.agreeing.specs.declared.CheckError.TheVariants.{ListDiffers}
 use Rattle.agreeing.specs.declared.step.Place.{Place}
 use Rattle.agreeing.specs.Agreeing.{same}
 use Rattle.agreeing.specs.Steps.{own_record, Steps, Finishes}
 use Rattle.agreeing.proofs.AgreeLaws.{same-is, same_self}
 
-abbrev pub place : Cursor → Line → Place
-place next line = record { agrees = true; next = next; line = line }
-
-abbrev pub away : Cursor → Line → Place
-away next line = record { agrees = false; next = next; line = line }
-
 module _ (s : Source) (p : Place) (r : Record) where
   -- no lexeme is there
   pub none-there : (there : Lexed) → LexesUnder s.profile s.text p.next.at there
-      → ((k start m : ℕ) (next : Cursor) (d u : ℕ) → there ≡ Token k start m next d u → ⊥) → Steps s p r (away p.next p.line)
+      → ((k start m : ℕ) (next : Cursor) (d u : ℕ) → there ≡ Token k start m next d u → ⊥) → Steps s p r None
   unfolding Steps LexesUnder
   none-there (Token k start n next d u) g other t h e = other k start n next d u refl
   none-there (Over next) g other t h e =
@@ -48,7 +39,7 @@ module _ (s : Source) (p : Place) (r : Record) where
   -- a lexeme is there, and the record is its own, or not
   module _ (k start m : ℕ) (next : Cursor) (d u : ℕ) (h : LexesUnder s.profile s.text p.next.at (Token k start m next d u)) where
     pub its_own : true ≡ same (record_on p.line k start m) r → (line : Line) → line ≡ line_over p.line start (slice start next.at s.text)
-        → Steps s p r (place next line)
+        → Steps s p r (Some (record { next = next; line = line }))
     unfolding Steps LexesUnder
     its_own e line l =
         let o = token-told s p.next.at k start m next d u h in
@@ -60,7 +51,7 @@ module _ (s : Source) (p : Place) (r : Record) where
           l ∙ ap (λ (a : ℕ). line_over p.line start (slice start a s.text)) ends,
         )
 
-    pub not-its-own : false ≡ same (record_on p.line k start m) r → Steps s p r (away p.next p.line)
+    pub not-its-own : false ≡ same (record_on p.line k start m) r → Steps s p r None
     unfolding Steps LexesUnder
     not-its-own e t g q =
         let same-token = ap legal_of (gives-unique (rules s.profile) s.text p.next.at (token k start m next.at d u) (token_of t) h g) in
@@ -69,34 +60,13 @@ module _ (s : Source) (p : Place) (r : Record) where
 
 -- behind the last record
 module _ (s : Source) (at count : ℕ) where
-  pub finishes-end : (next : Cursor) → LexesUnder s.profile s.text at (Over next) → Finishes s at count Accepted
+  pub finishes-end : (next : Cursor) → LexesUnder s.profile s.text at (Over next) → Finishes s at count (Ok tt)
   unfolding LexesUnder
   finishes-end next g = record { there = end next.at; gives = g; answers = refl }
 
   pub finishes-early : (there : Lexed) → LexesUnder s.profile s.text at there → ((next : Cursor) → there ≡ Over next → ⊥)
-      → Finishes s at count (ListDiffers count)
+      → Finishes s at count (Err (ListDiffers count))
   unfolding LexesUnder
   finishes-early (Token k start m next d u) g other = record { there = token k start m next.at d u; gives = g; answers = refl }
   finishes-early (Over next) g other = absurd (other next refl)
   finishes-early (Bad why start m next) g other = record { there = refusal (number_of why) start m next.at; gives = g; answers = refl }
-
--- five comparisons, one behind the other: the first number that differs, or the last
-module _ (k from bytes : ℕ) (here : Line) (kind start n line column : ℕ) where
-  abbrev Is : Bool → Type 0
-  Is b = b ≡ same (record_on here k from bytes) (record_of kind start n line column)
-
-  pub kind-differs : (k ≡ kind → ⊥) → Is false
-  kind-differs f = rw (ne_eqb k kind f)
-
-  pub start-differs : (from ≡ start → ⊥) → Is false
-  start-differs f = rw (ne_eqb from start f, and-false)
-
-  pub length-differs : (bytes ≡ n → ⊥) → Is false
-  length-differs f = rw (ne_eqb bytes n f, and-false)
-
-  pub line-differs : (here.number ≡ line → ⊥) → Is false
-  line-differs f = rw (ne_eqb here.number line f, and-false)
-
-  pub column-is-left : k ≡ kind → from ≡ start → bytes ≡ n → here.number ≡ line → (c : ℕ) → c ≡ start - here.start + 1 → Is (eqb c column)
-  column-is-left a b l d c e =
-      rw (eq-eqb k kind a, eq-eqb from start b, eq-eqb bytes n l, eq-eqb here.number line d, e, b)

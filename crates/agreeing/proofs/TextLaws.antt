@@ -17,7 +17,8 @@ use Rattle.places.specs.Places.{newlines, since_newline, line_at, column_at}
 use Rattle.walks.specs.Walk.{Always}
 use Rattle.walks.proofs.Computed.{Stop, nowhere, stop, Test, walk, Decides, Right, from-here, every-so}
 use Rattle.lists.specs.Lists.{records_of, longest_text}
-use Rattle.agreeing.specs.declared.Checked.{Checked}
+use Rattle.std.specs.Prelude.{Result}
+use Rattle.agreeing.specs.declared.CheckError.{CheckError}
 use Rattle.agreeing.specs.Agreeing.{agreeing, verdict, Checking, verdict_of, Checks}
 use Rattle.agreeing.specs.Texts.{CheckRow, checks}
 use Rattle.agreeing.proofs.Theorems.{checking-unique}
@@ -61,13 +62,13 @@ checking-row r (stop l to there) (p, g, stuck) e =
 -- a row's verdict is that of the definition, and whatever meets the contract of `check_list` answers so
 abbrev pub CheckSo : CheckRow → Type 0
 CheckSo r =
-    Checking r.source r.records r.verdict × ((q : Checked) → Checks r.source r.records q → verdict_of q ≡ r.verdict)
+    Checking r.source r.records r.verdict × ((q : Result (Unit {0}) CheckError) → Checks r.source r.records q → verdict_of q ≡ r.verdict)
 
 check-so : (r : CheckRow) → fits r ≡ true → Checking r.source r.records r.verdict → CheckSo r
 unfolding Checks
 check-so r f x = (x, so)
   where
-    so : (q : Checked) → Checks r.source r.records q → verdict_of q ≡ r.verdict
+    so : (q : Result (Unit {0}) CheckError) → Checks r.source r.records q → verdict_of q ≡ r.verdict
     so q (inl (h, e)) = let l = leb→le (length r.source.text) longest_text (subst T (sym f) tt) in absurd (omega arith)
     so q (inr (h, y)) = checking-unique r.source r.records (verdict_of q) r.verdict y x
 

@@ -25,22 +25,23 @@ use Rattle.lists.specs.declared.list.Listed.TheVariants.{End}
 use Rattle.lists.specs.Lists.{records_of, HasRoom, list_answer, longest_text, Lists}
 use Rattle.lists.proofs.KeptLaws.{records-many}
 use Rattle.lists.proofs.SliceLaws.{front-first}
-use Rattle.agreeing.specs.declared.Checked.{Checked}
-use Rattle.agreeing.specs.declared.Checked.TheVariants.{Accepted, TooLong, ListDiffers}
+use Rattle.std.specs.Prelude.{Result, Ok, Err}
+use Rattle.agreeing.specs.declared.CheckError.{CheckError}
+use Rattle.agreeing.specs.declared.CheckError.TheVariants.{TooLong, ListDiffers}
 use Rattle.agreeing.specs.Agreeing.{same, agreeing, all_agree, Verdict, accepted, refused, list_differs, verdict, Checking, verdict_of, Checks, DiffersAt}
 use Rattle.agreeing.proofs.AgreeLaws.{same-is, same_self}
 
 -- An answer can be read back from its verdict.
-abbrev checked_of : Verdict → Checked
-checked_of accepted = Accepted
-checked_of (refused number index) = cond (eqb number 9) TooLong (ListDiffers index)
+abbrev checked_of : Verdict → Result (Unit {0}) CheckError
+checked_of accepted = Ok tt
+checked_of (refused number index) = Err (cond (eqb number 9) TooLong (ListDiffers index))
 
-back : (r : Checked) → checked_of (verdict_of r) ≡ r
-back Accepted = refl
-back TooLong = refl
-back (ListDiffers index) = refl
+back : (r : Result (Unit {0}) CheckError) → checked_of (verdict_of r) ≡ r
+back (Ok u) = refl
+back (Err TooLong) = refl
+back (Err (ListDiffers index)) = refl
 
-same-verdict : (r q : Checked) → verdict_of r ≡ verdict_of q → r ≡ q
+same-verdict : (r q : Result (Unit {0}) CheckError) → verdict_of r ≡ verdict_of q → r ≡ q
 same-verdict r q e = sym (back r) ∙ ap checked_of e ∙ back q
 
 pub checking-unique : (s : Source) (rs : List Record) (v u : Verdict) → Checking s rs v → Checking s rs u → v ≡ u
@@ -50,16 +51,16 @@ checking-unique s rs v u x y =
     ap (verdict rs (records_of s.text y.walk.passed)) t ∙ sym y.answers
 
 -- The contract leaves one answer.
-pub check-unique : (s : Source) (rs : List Record) (r q : Checked) → Checks s rs r → Checks s rs q → r ≡ q
+pub check-unique : (s : Source) (rs : List Record) (r q : Result (Unit {0}) CheckError) → Checks s rs r → Checks s rs q → r ≡ q
 unfolding Checks
 check-unique s rs r q (inl (h, e)) (inl (k, f)) = same-verdict r q (e ∙ sym f)
 check-unique s rs r q (inl (h, e)) (inr (k, y)) = absurd (omega arith)
 check-unique s rs r q (inr (h, x)) (inl (k, f)) = absurd (omega arith)
 check-unique s rs r q (inr (h, x)) (inr (k, y)) = same-verdict r q (checking-unique s rs (verdict_of r) (verdict_of q) x y)
 
-pub long-is-refused : (s : Source) (rs : List Record) (r : Checked) → longest_text < length s.text → Checks s rs r → r ≡ TooLong
+pub long-is-refused : (s : Source) (rs : List Record) (r : Result (Unit {0}) CheckError) → longest_text < length s.text → Checks s rs r → r ≡ Err TooLong
 unfolding Checks
-long-is-refused s rs r h (inl (k, e)) = same-verdict r TooLong e
+long-is-refused s rs r h (inl (k, e)) = same-verdict r (Err TooLong) e
 long-is-refused s rs r h (inr (k, x)) = absurd (omega arith)
 
 -- lists that agree to the end of both are one
@@ -110,7 +111,7 @@ own-list s rs x =
     )
 
 -- Of one text no more than one list is accepted: whatever else a record says is refused.
-pub accepted-one : (s : Source) (rs qs : List Record) → Checks s rs Accepted → Checks s qs Accepted → rs ≡ qs
+pub accepted-one : (s : Source) (rs qs : List Record) → Checks s rs (Ok tt) → Checks s qs (Ok tt) → rs ≡ qs
 unfolding Checks
 accepted-one s rs qs (inl (h, e)) y = let z : ◌≡◌ {A = ℕ} 0 1 = cc in absurd (omega arith)
 accepted-one s rs qs (inr (h, x)) (inl (k, e)) = absurd (omega arith)
@@ -131,7 +132,7 @@ room-all s room before from (t ∷ l) to (e, g, o, p) k = (
 )
 
 -- Accepted: lent room enough, List writes just this list from offset 0 and comes to the text's end.
-pub accepted-is-lists : (s : Source) (rs : List Record) → Checks s rs Accepted → (old : List ℕ) → width * length rs ≤ length old
+pub accepted-is-lists : (s : Source) (rs : List Record) → Checks s rs (Ok tt) → (old : List ℕ) → width * length rs ≤ length old
     → Lists s 0 old (End (length rs) (cursor (length s.text))) (at_front rs old)
 unfolding Checks Lists
 accepted-is-lists s rs (inl (h, e)) old room = let z : ◌≡◌ {A = ℕ} 0 1 = cc in absurd (omega arith)
@@ -164,7 +165,7 @@ answers-end at (refusal k start n o) offset e = let z : ◌≡◌ {A = ℕ} 0 1 
 
 -- What List writes from offset 0, where it comes to the text's end, is accepted.
 pub lists-is-accepted : (s : Source) (old new : List ℕ) (records : ℕ) (next : Cursor) → Lists s 0 old (End records next) new
-    → Checks s (take records (read_back new)) Accepted
+    → Checks s (take records (read_back new)) (Ok tt)
 unfolding Checks Lists
 lists-is-accepted s old new records next (inl (h, e, m, f)) = let z : ◌≡◌ {A = ℕ} 0 1 = cc in absurd (omega arith)
 lists-is-accepted s old new records next (inr (short, x)) =
@@ -222,7 +223,7 @@ differs-so true i j e = let z : ◌≡◌ {A = ℕ} 0 1 = cc in absurd (omega ar
 differs-so false i j e = (refl, cc)
 
 -- Not accepted: the index is that of the first record that differs, is surplus or is missing; or of the lexeme that is refused.
-pub first-differs : (s : Source) (rs : List Record) (i : ℕ) → length s.text ≤ longest_text → Checks s rs (ListDiffers i) → (w : Walk Always s 0)
+pub first-differs : (s : Source) (rs : List Record) (i : ℕ) → length s.text ≤ longest_text → Checks s rs (Err (ListDiffers i)) → (w : Walk Always s 0)
     → DiffersAt rs (records_of s.text w.passed) w.there i
 unfolding Checks
 first-differs s rs i short (inl (h, e)) w = absurd (omega arith)

@@ -1,12 +1,12 @@
 -- What the check of a list made elsewhere owes: whether its records are those that List would write from offset 0. Assumes nothing.
-use Rattle.std.specs.Prelude.{ℕ, suc, ◌≤◌, ◌<◌, ◌≡◌, Bool, true, cond, not, ◌&&◌, List, [], ◌∷◌, ◌⊎◌, eqb, length, take, get_or}
+use Rattle.std.specs.Prelude.{ℕ, suc, ◌≤◌, ◌<◌, ◌≡◌, Bool, true, cond, not, ◌&&◌, List, [], ◌∷◌, ◌⊎◌, eqb, length, take, get_or, Result, Ok, Err}
 use Rattle.grammar.specs.Answers.{Answer, is_refusal}
 use Rattle.grammar.specs.Longest.{Source}
 use Rattle.records.specs.declared.Record.{Record}
 use Rattle.walks.specs.Walk.{Always, Walk}
 use Rattle.lists.specs.Lists.{records_of, longest_text}
-use Rattle.agreeing.specs.declared.Checked.{Checked}
-use Rattle.agreeing.specs.declared.Checked.TheVariants.{Accepted, TooLong, ListDiffers}
+use Rattle.agreeing.specs.declared.CheckError.{CheckError}
+use Rattle.agreeing.specs.declared.CheckError.TheVariants.{TooLong, ListDiffers}
 use Rattle.agreeing.specs.Refusals.{check_refusal}
 
 -- in two records each of the five numbers is the same
@@ -45,13 +45,13 @@ pub record Checking (s : Source) (rs : List Record) (v : Verdict) : Type 0 where
   pub answers : v ≡ verdict rs (records_of s.text walk.passed) walk.there
 
 -- what each case of an answer says
-abbrev pub verdict_of : Checked → Verdict
-verdict_of Accepted = accepted
-verdict_of TooLong = too_long
-verdict_of (ListDiffers index) = list_differs index
+abbrev pub verdict_of : Result (Unit {0}) CheckError → Verdict
+verdict_of (Ok u) = accepted
+verdict_of (Err TooLong) = too_long
+verdict_of (Err (ListDiffers index)) = list_differs index
 
 -- the answer r on a list: a text that is too long is refused first
-unfoldable pub Checks : Source → List Record → Checked → Type 0
+unfoldable pub Checks : Source → List Record → Result (Unit {0}) CheckError → Type 0
 Checks s rs r =
     ((longest_text < length s.text) × (verdict_of r ≡ too_long)) ⊎ ((length s.text ≤ longest_text) × Checking s rs (verdict_of r))
 

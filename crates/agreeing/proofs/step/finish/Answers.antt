@@ -8,8 +8,7 @@ returns-in-End c =
     let a = c.args in
     finishes-end (source a.profile a.text.now) a.place.next.at a.count _ c.in-End.ensures
 
-pub returns : goal.returns
-returns c =
+pub returns-in_default : goal.returns-in_default
+returns-in_default c =
     let a = c.args in
-    let next = c.next-there in
-    finishes-early (source a.profile a.text.now) a.place.next.at a.count next.result next.ensures c.in_default.not-End
+    finishes-early (source a.profile a.text.now) a.place.next.at a.count c.next.result c.next.ensures c.in_default.not-End
