@@ -1,12 +1,10 @@
 // What is printed of bytes: what each call that writes a literal answers for them, and for the integer that they begin with.
-ghost use Rattle.rows.specs.Out.{Within};
-
-use crate::lines::{put_line, unset};
+use crate::lines::put_call;
 use crate::numbers::value_of;
 use blobs::writing::write_blob;
 use integers::writing::write_integer;
-use rows::out::{filled, put_byte};
-use spans::answers::read_of;
+use rows::out::{Out, filled};
+use spans::answers::ReadError;
 use strings::writing::{write_name, write_string};
 
 // The longest buffer that a record may ask for, about twice as long as any literal of a record's bytes.
@@ -19,87 +17,24 @@ pub fn is_write_record(length: usize) -> bool {
 
 // Four lines and an empty one. A buffer longer than what is lent has no byte.
 pub fn put_writes(
-    rt: &(impl Print + Eprint),
-    out: &mut [u8],
-    at: usize,
+    out: &mut Out<'_, impl Print + Eprint>,
     bytes: &[u8],
     length: usize,
     lent: &mut [u8],
-) -> usize
-    ensures { Within out.new result }
-{
+) {
     let n = filled(lent, length);
-    put_written(rt, out, at, bytes, &mut lent[..n])
-}
-
-fn put_written(
-    rt: &(impl Print + Eprint),
-    out: &mut [u8],
-    at: usize,
-    bytes: &[u8],
-    buffer: &mut [u8],
-) -> usize
-    ensures { Within out.new result }
-{
-    let string = put_string_written(rt, out, at, bytes, buffer);
-    let name = put_name_written(rt, out, string, bytes, buffer);
-    let blob = put_blob_written(rt, out, name, bytes, buffer);
-    let integer = put_integer_written(rt, out, blob, value_of(bytes), buffer);
-    put_byte(rt, out, integer, b'\n')
-}
-
-fn put_string_written(
-    rt: &(impl Print + Eprint),
-    out: &mut [u8],
-    at: usize,
-    bytes: &[u8],
-    buffer: &mut [u8],
-) -> usize
-    ensures { Within out.new result }
-{
-    unset(buffer);
-    let answer = read_of(write_string(bytes, buffer));
-    put_line(rt, out, at, b"STRING", answer, buffer)
-}
-
-fn put_name_written(
-    rt: &(impl Print + Eprint),
-    out: &mut [u8],
-    at: usize,
-    bytes: &[u8],
-    buffer: &mut [u8],
-) -> usize
-    ensures { Within out.new result }
-{
-    unset(buffer);
-    let answer = read_of(write_name(bytes, buffer));
-    put_line(rt, out, at, b"NAME", answer, buffer)
-}
-
-fn put_blob_written(
-    rt: &(impl Print + Eprint),
-    out: &mut [u8],
-    at: usize,
-    bytes: &[u8],
-    buffer: &mut [u8],
-) -> usize
-    ensures { Within out.new result }
-{
-    unset(buffer);
-    let answer = read_of(write_blob(bytes, buffer));
-    put_line(rt, out, at, b"BLOB", answer, buffer)
-}
-
-fn put_integer_written(
-    rt: &(impl Print + Eprint),
-    out: &mut [u8],
-    at: usize,
-    value: i64,
-    buffer: &mut [u8],
-) -> usize
-    ensures { Within out.new result }
-{
-    unset(buffer);
-    let answer = read_of(write_integer(value, buffer));
-    put_line(rt, out, at, b"INTEGER", answer, buffer)
+    let buffer = &mut lent[..n];
+    put_call(out, "STRING", buffer, |buffer| {
+        write_string(bytes, buffer).map_err(ReadError::from)
+    });
+    put_call(out, "NAME", buffer, |buffer| {
+        write_name(bytes, buffer).map_err(ReadError::from)
+    });
+    put_call(out, "BLOB", buffer, |buffer| {
+        write_blob(bytes, buffer).map_err(ReadError::from)
+    });
+    put_call(out, "INTEGER", buffer, |buffer| {
+        write_integer(value_of(bytes), buffer).map_err(ReadError::from)
+    });
+    println!(out;);
 }
