@@ -5,8 +5,8 @@ use native.Mathlib.Nat.{not-suc-le-zero}
 use mathlib.Core.Path.{◌≡◌, refl, sym, subst}
 use mathlib.Core.Bool.{Bool, true, false, not, ◌&&◌, ◌||◌}
 use lib.Dec.{eqb, leb}
-use borrow.Author.Tests.{eqb-true, eqb-false, leb-true, le-leb, lt-leb, lt-ltb, le-ltb, not-true}
-use Rattle.keywords.proofs.Logic.{split, and_left, and_right, and-false}
+use borrow.Author.Tests.{eqb-true, eqb-false, leb-true, le-leb, not-true}
+use Rattle.keywords.proofs.Logic.{split, and_left, and_right}
 use Rattle.words.specs.Bytes.{is, within, between, is_digit}
 use Rattle.hexdigits.specs.Digits.{worth, digit}
 
@@ -36,7 +36,7 @@ worth-digit d h = eqb-true _ _ (and_left _ _ (below_at good 16 d h all-good))
 pub digit-no-underscore : (d : ℕ) → d < 16 → is "_" (digit d) ≡ false
 digit-no-underscore d h = not-true _ (and_right (eqb (worth (digit d)) d) _ (below_at good 16 d h all-good))
 
--- what a byte stands for, by where it lies
+-- where a decimal digit lies
 pub digit-least : (b : ℕ) → is_digit b ≡ true → 48 ≤ b
 unfolding is_digit
 digit-least b e = leb-true 48 b (and_left (leb 48 b) (leb b 57) e)
@@ -45,44 +45,15 @@ pub digit-most : (b : ℕ) → is_digit b ≡ true → b ≤ 57
 unfolding is_digit
 digit-most b e = leb-true b 57 (and_right (leb 48 b) (leb b 57) e)
 
+-- what a byte stands for, by where it lies
 module _ (b : ℕ) where
   pub worth-decimal : is_digit b ≡ true → b - 48 ≡ worth b
   unfolding worth
   worth-decimal e = rw e
 
-  pub worth-before : is_digit b ≡ false → b < 65 → 0 ≡ worth b
-  unfolding worth
-  worth-before e h = rw (e, lt-leb 65 b h, lt-leb 97 b (omega arith))
-
   pub worth-capital : is_digit b ≡ false → 65 ≤ b → b ≤ 70 → b - 65 + 10 ≡ worth b
   unfolding worth
   worth-capital e l h = rw (e, le-leb 65 b l, le-leb b 70 h)
-
-  pub worth-between : is_digit b ≡ false → 70 < b → b < 97 → 0 ≡ worth b
-  unfolding worth
-  worth-between e l h = rw (e, lt-leb b 70 l, lt-leb 97 b h, and-false (leb 65 b))
-
-  pub worth-small : is_digit b ≡ false → 97 ≤ b → b ≤ 102 → b - 97 + 10 ≡ worth b
-  unfolding worth
-  worth-small e l h = rw (e, lt-leb b 70 (omega arith), and-false (leb 65 b), le-leb 97 b l, le-leb b 102 h)
-
-  pub worth-behind : is_digit b ≡ false → 102 < b → 0 ≡ worth b
-  unfolding worth
-  worth-behind e l = rw (e, lt-leb b 70 (omega arith), and-false (leb 65 b), lt-leb b 102 l, and-false (leb 97 b))
-
--- the digit that stands for a number, by its size
-module _ (d : ℕ) where
-  pub digit-decimal : d < 10 → 48 + d ≡ digit d
-  unfolding digit
-  digit-decimal h = rw (lt-ltb d 10 h)
-
-  pub digit-capital : 10 ≤ d → d < 16 → 65 + (d - 10) ≡ digit d
-  unfolding digit
-  digit-capital l h = rw (le-ltb d 10 l, lt-ltb d 16 h)
-
-  pub digit-none : 16 ≤ d → 0 ≡ digit d
-  unfolding digit
-  digit-none l = rw (le-ltb d 10 (omega arith), le-ltb d 16 l)
 
 -- how much a byte stands for at most
 pub worth-most : (b : ℕ) → worth b < 16
