@@ -1,3 +1,2 @@
-pub mod ByteLaws
 pub mod FoldLaws
 pub mod Theorems

@@ -4,8 +4,8 @@ use Rattle.keywords.specs.Rows.{kind_of_row}
 use Rattle.words.proofs.FoldLaws.{short-word, long-word}
 use Rattle.words.proofs.lookup.keyword_or_id_token.Goals as goal
 
-pub returns-then-n-gt17 : goal.returns-then-n-gt17
-returns-then-n-gt17 c = sym (long-word _ c.if-n-gt17.true)
+pub returns-then-n-le17 : goal.returns-then-n-le17
+returns-then-n-le17 c = c.kind_of_row.ensures ∙ ap (kind_of_row _) c.fold.ensures ∙ short-word _ c.if-n-le17.true
 
-pub returns : goal.returns
-returns c = c.kind_of_row.ensures ∙ ap (kind_of_row _) c.fold.ensures ∙ short-word _ c.if-n-gt17.false
+pub returns-else-n-le17 : goal.returns-else-n-le17
+returns-else-n-le17 c = sym (long-word _ c.if-n-le17.false)
