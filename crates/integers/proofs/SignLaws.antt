@@ -4,13 +4,15 @@ use native.Mathlib.Omega.{arith}
 use native.Mathlib.Nat.{zero-add}
 use mathlib.Core.Path.{◌≡◌, refl, sym, ◌∙◌, ap, subst}
 use mathlib.Core.Bool.{true, false, true≢false}
-use lib.Dec.{leb}
+use lib.Dec.{leb, ltb}
 use lib.IntN.{ℤ, pos, negsuc, ◌-ℤ◌}
 use lib.Signed.{mag, lt_z}
 use mir.Syntax.{w64}
 use mir.Val.{SFits, to_z, of_z}
-use mir.ValLaws.{to_z-of_z}
-use borrow.Author.Tests.{lt-ltb, le-ltb, le-leb, lt-leb, leb-true}
+use mir.ValLaws.{to_z-of_z, to_z_pos}
+use Rattle.std.proofs.Math.Facts.{to_z-neg}
+use Rattle.std.proofs.lemmas.Int.{of_z-to_z}
+use borrow.Author.Tests.{lt-ltb, le-ltb, le-leb, lt-leb, leb-true, ltb-true, ltb-false}
 use Rattle.keywords.proofs.Logic.{split}
 use Rattle.buffers.specs.Buffers.{valued, refused_as}
 use Rattle.integers.specs.Integers.{signed, bits_of, up_to, decimal, hexadecimal, integer_literal}
@@ -37,6 +39,20 @@ signed_low n h = rw (lt-ltb n (2 ^ 63) h)
 pub signed_high : (n : ℕ) → 2 ^ 63 ≤ n → signed n ≡ negsuc (2 ^ 64 - suc n)
 unfolding signed
 signed_high n h = rw (le-ltb n (2 ^ 63) h)
+
+-- what std's method gives
+pub signed-cast : (n : ℕ) → n < 2 ^ 64 → to_z w64 n ≡ signed n
+signed-cast n h =
+    split (ltb n (2 ^ 63))
+    (λ e. let l : n < 2 ^ 63 = ltb-true n (2 ^ 63) e in to_z_pos w64 n l ∙ sym (signed_low n l))
+    (λ e.
+    let l : 2 ^ 63 ≤ n = ltb-false n (2 ^ 63) e in
+    let m : n ≡ 2 ^ 64 - suc (2 ^ 64 - suc n) = omega arith in
+    ap (to_z w64) m ∙ to_z-neg w64 (2 ^ 64 - suc n) (omega arith) ∙ sym (signed_high n l))
+
+-- and what an answer says of it
+pub cast-valued : {n : ℕ} {z : ℤ} → n < 2 ^ 64 → z ≡ to_z w64 n → valued (to_z w64 (of_z w64 z)) ≡ valued (signed n)
+cast-valued {n} h e = ap valued (rw e (ap (to_z w64) (of_z-to_z w64 n h) ∙ signed-cast n h))
 
 pub signed-bits : (v : ℤ) → mag v < 2 ^ 63 → signed (bits_of v) ≡ v
 unfolding bits_of

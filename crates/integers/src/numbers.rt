@@ -1,7 +1,7 @@
 // The number that digits name, underscores skipped.
 ghost use Rattle.std.specs.Prelude.{◌≡◌, ◌+◌, ◌*◌, ◌^◌, ◌≤◌, ◌<◌};
 ghost use Rattle.integers.specs.Numbers.{value};
-ghost use Rattle.integers.specs.Integers.{signed, up_to};
+ghost use Rattle.integers.specs.Integers.{up_to};
 ghost use Rattle.integers.specs.Calls.{said_of};
 
 use crate::reading::IntegerError;
@@ -13,10 +13,7 @@ pub(crate) fn small_number(bytes: &[u8], base: u64) -> u64
     ensures { result ≡ value base bytes.now }
 {
     let mut n: u64 = 0;
-    let mut i = 0;
-    while i < bytes.len() {
-        let b = bytes[i];
-        i += 1;
+    for &b in bytes {
         if b != b'_' {
             let d = worth(b) as u64;
             n = n * base + d;
@@ -36,32 +33,17 @@ pub(crate) fn number_up_to(
     ensures { said_of result ≡ up_to (most * base + last) (value base bytes.now) }
 {
     let mut n: u64 = 0;
-    let mut i = 0;
-    while i < bytes.len() {
-        let b = bytes[i];
-        i += 1;
+    for &b in bytes {
         if b != b'_' {
             let d = worth(b) as u64;
             if most < n {
                 return Err(IntegerError::OutOfRange);
             }
-            if n == most {
-                if last < d {
-                    return Err(IntegerError::OutOfRange);
-                }
+            if n == most && last < d {
+                return Err(IntegerError::OutOfRange);
             }
             n = n * base + d;
         }
     }
-    Ok(signed(n))
-}
-
-// 64 bits taken as two's complement.
-pub(crate) fn signed(bits: u64) -> i64
-    ensures { result ≡ signed bits }
-{
-    if bits <= 9223372036854775807 {
-        return bits as i64;
-    }
-    -1 - ((18446744073709551615 - bits) as i64)
+    Ok(n.cast_signed())
 }

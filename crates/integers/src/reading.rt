@@ -1,11 +1,11 @@
 // The value of an integer that is a span of a text.
-ghost use Rattle.std.specs.Prelude.{◌≡◌, true, false, ◌^◌, ◌≤◌, ◌<◌, drop};
+ghost use Rattle.std.specs.Prelude.{◌≡◌, ◌+◌, ◌*◌, true, false, ◌^◌, ◌≤◌, ◌<◌, drop};
 ghost use Rattle.grammar.specs.Answers.{is_hex};
 ghost use Rattle.integers.specs.Numbers.{value};
 ghost use Rattle.integers.specs.Integers.{integer_of, up_to};
 ghost use Rattle.integers.specs.Calls.{said_of, ReadsInteger};
 
-use crate::numbers::{number_up_to, signed, small_number};
+use crate::numbers::{number_up_to, small_number};
 use grammar::profile::Profile;
 use keywords::kinds::TK_INTEGER;
 use spans::span::find;
@@ -38,9 +38,9 @@ fn value_of(lexeme: &[u8], digits: u32) -> Result<i64, IntegerError>
     ensures { said_of result ≡ integer_of lexeme.now }
 {
     if is_hex(lexeme) {
-        return hexadecimal_value(&lexeme[2..], digits);
+        return value_in::<16, 16, 1152921504606846975, 15>(&lexeme[2..], digits);
     }
-    decimal_value(lexeme, digits)
+    value_in::<10, 18, 922337203685477580, 7>(lexeme, digits)
 }
 
 // `0x` or `0X`.
@@ -50,23 +50,18 @@ fn is_hex(bytes: &[u8]) -> bool
     matches!(bytes, [b'0', b'x' | b'X', ..])
 }
 
-// Eighteen digits always fit, sixteen hexadecimal ones too. More may: zeros before the others do not count.
-fn decimal_value(bytes: &[u8], digits: u32) -> Result<i64, IntegerError>
-    requires { digits ≤ 18 → value 10 bytes.now < 10 ^ 18 }
-    ensures { said_of result ≡ up_to 9223372036854775807 (value 10 bytes.now) }
+// The value of digits of a base, up to MOST * BASE + LAST. So many digits as FEW always fit; more may: zeros before the others do not count.
+fn value_in<const BASE: u64, const FEW: u32, const MOST: u64, const LAST: u64>(
+    bytes: &[u8],
+    digits: u32,
+) -> Result<i64, IntegerError>
+    requires fits { digits ≤ FEW → value BASE bytes.now < BASE ^ FEW }
+    requires few { BASE ^ FEW ≤ MOST * BASE + LAST + 1 }
+    requires limit { (LAST < BASE) × (15 ≤ BASE + LAST) × (MOST * BASE + LAST < 2 ^ 64) }
+    ensures { said_of result ≡ up_to (MOST * BASE + LAST) (value BASE bytes.now) }
 {
-    if digits <= 18 {
-        return Ok(signed(small_number(bytes, 10)));
+    if digits <= FEW {
+        return Ok(small_number(bytes, BASE).cast_signed());
     }
-    number_up_to(bytes, 10, 922337203685477580, 7)
-}
-
-fn hexadecimal_value(bytes: &[u8], digits: u32) -> Result<i64, IntegerError>
-    requires { digits ≤ 16 → value 16 bytes.now < 16 ^ 16 }
-    ensures { said_of result ≡ up_to 18446744073709551615 (value 16 bytes.now) }
-{
-    if digits <= 16 {
-        return Ok(signed(small_number(bytes, 16)));
-    }
-    number_up_to(bytes, 16, 1152921504606846975, 15)
+    number_up_to(bytes, BASE, MOST, LAST)
 }
