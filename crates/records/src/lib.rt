@@ -23,12 +23,11 @@ pub fn put(numbers: &mut [u32], at: usize, r: Record) -> bool
     ensures { (result ≡ is_free numbers.old at) × (numbers.new ≡ with_record numbers.old at r) }
 {
     let room = numbers.len();
-    if room < WIDTH {
+    if room < WIDTH || room - WIDTH < at {
         return false;
     }
-    if room - WIDTH < at {
-        return false;
-    }
+    // Number by number. Tried: on the device `copy_from_slice` of the five is a call of memcpy for each token; and of what is written through
+    // a slice's pattern the check knows the length alone.
     numbers[at] = r.kind;
     numbers[at + 1] = r.start;
     numbers[at + 2] = r.length;
