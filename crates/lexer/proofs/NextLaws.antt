@@ -23,11 +23,11 @@ use Rattle.grammar.proofs.Reading.{alike_first, first_alike}
 use Rattle.lexer.specs.declared.lexed.Refusal.TheVariants.{OffsetPastEnd}
 use Rattle.lexer.specs.declared.lexed.Lexed.{Lexed}
 use Rattle.lexer.specs.declared.lexed.Lexed.TheVariants.{Token, End, Refused}
-use Rattle.lexer.specs.Eaten.{cursor, head}
+use Rattle.lexer.specs.Eaten.{cursor, head, one_or_two}
 use Rattle.grammar.proofs.Places.{At}
 use Rattle.lexer.specs.Values.{values_of, Lexes, LexesUnder}
 use Rattle.lexer.proofs.EatLaws.{head-sees}
-use Rattle.lexer.proofs.OperatorLaws.{follow, is_operator, is_colon, one-lexed}
+use Rattle.lexer.proofs.OperatorLaws.{follow, is_operator, is_colon, one-lexed, one_or_two-lexed}
 
 -- past the end, and at the end
 pub past-lexed : (π : Profile) (s : List ℕ) (at : ℕ) → length s < at → LexesUnder π s at (Refused OffsetPastEnd 0 0 (cursor at))
@@ -79,6 +79,15 @@ key-lexed k b π s at h e i n o f r q =
     let seen = key-seen k b (drop at s) h e in
     let d : 1 ≡ at + 1 - at = omega arith in
     lift (byte k) i π s at seen r (one-lexed k s at seen (sym (moved-one (byte k) s at seen)) n o (rw f (misses-none _)) r (q ∙ rw (← d)))
+
+-- one of two bytes, or of the first of them
+pub key-two-lexed : (k d b : ℕ) (π : Profile) (s : List ℕ) (at : ℕ) → At (byte b) at s → b ≡ k → inside (byte k) alike_first ≡ true
+    → is_colon (k ∷ []) ≡ false → is_operator (k ∷ []) operators ≡ true → follow (k ∷ []) ≡ byte d
+    → is_colon (k ∷ d ∷ []) ≡ false → is_operator (k ∷ d ∷ []) operators ≡ true → follow (k ∷ d ∷ []) ≡ none
+    → (r : Lexed) → r ≡ one_or_two (kind_in operators (k ∷ [])) d (kind_in operators (k ∷ d ∷ [])) at s → LexesUnder π s at r
+key-two-lexed k d b π s at h e i n o x m p y r q =
+    let seen = key-seen k b (drop at s) h e in
+    lift (byte k) i π s at seen r (one_or_two-lexed k d s at seen n o x m p y r q)
 
 -- a byte is none of these
 abbrev Apart : ℕ → List ℕ → Type 0

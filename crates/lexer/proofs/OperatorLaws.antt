@@ -1,5 +1,5 @@
 -- Blank runs, comments and operators. Assumes nothing.
-use Prim.Native.Nat.{ℕ, ◌-◌}
+use Prim.Native.Nat.{ℕ, ◌+◌, ◌-◌}
 use mathlib.Core.Path.{◌≡◌, refl, sym, ◌∙◌}
 use mathlib.Core.Bool.{Bool, true, false, cond, ◌&&◌, ◌||◌, true≢false}
 use mathlib.Core.List.{List, [], ◌∷◌}
@@ -19,7 +19,7 @@ use Rattle.grammar.specs.Classes.{operators, rules}
 use Rattle.grammar.specs.Answers.{answer}
 use Rattle.grammar.specs.Runs.{char, sees, moved, over}
 use Rattle.grammar.proofs.States.{start, after, met}
-use Rattle.grammar.proofs.Seen.{moved-end, over-stops, at-end, misses-none, inside-misses}
+use Rattle.grammar.proofs.Seen.{moved-end, moved-one, over-stops, at-end, misses-none, inside-misses}
 use Rattle.grammar.proofs.Scan.{goes, along}
 use Rattle.grammar.proofs.RulePlaces.{blank_run_rule, closed_line_rule, open_line_rule, closed_block_rule, open_block_rule, operator_rule, bang_rule}
 use Rattle.grammar.proofs.Reading.{Reads, Ends, EndsUnder, Spelled, behind, begin, reads-eat, reads-while, reads-join, reads-stop}
@@ -27,11 +27,11 @@ use Rattle.grammar.proofs.Reading.{spelled-first, spelled-more, spelled-reads, s
 use Rattle.lexer.specs.declared.lexed.Lexed.{Lexed}
 use Rattle.lexer.specs.declared.lexed.Lexed.TheVariants.{Token, Refused}
 use Rattle.lexer.specs.declared.lexed.Refusal.TheVariants.{ExpectedEqualsSign}
-use Rattle.lexer.specs.Eaten.{cursor}
+use Rattle.lexer.specs.Eaten.{cursor, one_or_two}
 use Rattle.grammar.proofs.Places.{At}
 use Rattle.lexer.specs.Values.{Lexes, LexesUnder}
 use Rattle.lexer.proofs.EatLaws.{Reached}
-use Rattle.lexer.proofs.AnswerLaws.{token-lexes, whole-lexes}
+use Rattle.lexer.proofs.AnswerLaws.{token-lexes, whole-lexes, two_token, first_token}
 
 -- a blank run
 module _ (s : List ℕ) (from d e : ℕ) (h : At blank from s) (f : d ≡ moved from s) (g : e ≡ over blank d s) where
@@ -122,6 +122,17 @@ module _ (b : ℕ) (s : List ℕ) (from : ℕ) (h : At (byte b) from s) {at : �
       → is_colon (b ∷ d ∷ []) ≡ false → is_operator (b ∷ d ∷ []) operators ≡ true → follow (b ∷ d ∷ []) ≡ none
       → (r : Lexed) → r ≡ Token (kind_in operators (b ∷ d ∷ [])) from (e - from) (cursor e) 0 0 → Lexes s from r
   two-lexed d i g n o z r q = operator-lexed (spelled-more (spelled-first b s from h f) d i g) n o (rw z (misses-none _)) r q
+
+-- of one, or of two where the second follows
+pub one_or_two-lexed : (b d : ℕ) (s : List ℕ) (from : ℕ) → At (byte b) from s
+    → is_colon (b ∷ []) ≡ false → is_operator (b ∷ []) operators ≡ true → follow (b ∷ []) ≡ byte d
+    → is_colon (b ∷ d ∷ []) ≡ false → is_operator (b ∷ d ∷ []) operators ≡ true → follow (b ∷ d ∷ []) ≡ none
+    → (r : Lexed) → r ≡ one_or_two (kind_in operators (b ∷ [])) d (kind_in operators (b ∷ d ∷ [])) from s → Lexes s from r
+one_or_two-lexed b d s from h n o x m p y r q =
+    let one = sym (moved-one (byte b) s from h) in
+    split (sees (byte d) (drop (from + 1) s))
+    (λ e. two-lexed b s from h one d e refl m p y r (q ∙ sym (two_token _ d _ from s refl e refl)))
+    (λ e. one-lexed b s from h one n o (rw x e) r (q ∙ sym (first_token _ d _ from s refl e)))
 
 -- `--` to and with the newline, or to the end
 module _ {s : List ℕ} {from at : ℕ} (p : Spelled s from at (bytes "--")) {stop e : ℕ} (f : stop ≡ over (no (char "\n")) at s) (g : e ≡ moved stop s) where

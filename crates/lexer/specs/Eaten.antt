@@ -7,6 +7,8 @@ use Rattle.grammar.specs.Form.{Set, D, H, byte, no, holds}
 use Rattle.grammar.specs.Runs.{char, sees, over}
 use Rattle.lexer.specs.declared.cursor.Cursor.{Cursor}
 use Rattle.lexer.specs.declared.digits.Tally.{Tally}
+use Rattle.lexer.specs.declared.lexed.Lexed.{Lexed}
+use Rattle.lexer.specs.declared.lexed.Lexed.TheVariants.{Token}
 use Rattle.lexer.specs.declared.digits.Span.{Span}
 
 abbrev pub cursor : ℕ → Cursor
@@ -30,6 +32,10 @@ unfoldable pub past : ℕ → ℕ → List ℕ → Past
 past b at s =
     let stop = over (no (byte b)) at s in
     cond (sees (byte b) (drop stop s)) (Ok (cursor (stop + 1))) (Err (cursor stop))
+
+-- the token of one byte, or of two where the second is there
+abbrev pub one_or_two : ℕ → ℕ → ℕ → ℕ → List ℕ → Lexed
+one_or_two one b two at s = cond (sees (byte b) (drop (at + 1) s)) (Token two at 2 (cursor (at + 2)) 0 0) (Token one at 1 (cursor (at + 1)) 0 0)
 
 -- behind a run, with what was counted, or where it goes wrong
 abbrev pub Digits : Type 0

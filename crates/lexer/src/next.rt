@@ -12,17 +12,17 @@ use crate::identifiers::{eat_blob_or_id, eat_illegal, eat_unrecognized};
 use crate::lexed::{Lexed, Refusal};
 use crate::numbers::{eat_dot_or_frac, eat_number};
 use crate::operators::{
-    eat_array_contains_or_var, eat_concat_or_bitor, eat_eq, eat_ge_or_gt_or_rshift,
-    eat_le_or_ne_or_lshift_or_lt, eat_minus_or_comment_or_ptr, eat_ne, eat_one_token,
-    eat_overlap_or_bitand, eat_slash_or_comment, eat_white_space,
+    eat_array_contains_or_var, eat_ge_or_gt_or_rshift, eat_le_or_ne_or_lshift_or_lt,
+    eat_minus_or_comment_or_ptr, eat_ne, eat_one_or_two, eat_one_token, eat_slash_or_comment,
+    eat_white_space,
 };
 use crate::parameters::{eat_colon_or_var, eat_named_var, eat_numbered_var};
 use crate::quoted::{eat_bracketed, eat_lit_or_id};
 use crate::sets::{Digit, Start};
 use grammar::profile::Profile;
 use keywords::kinds::{
-    TK_BITAND, TK_BITNOT, TK_COMMA, TK_LBRACKET, TK_LP, TK_PLUS, TK_RBRACKET, TK_REM, TK_RP,
-    TK_SEMI, TK_STAR,
+    TK_ARRAY_OVERLAP, TK_BITAND, TK_BITNOT, TK_BITOR, TK_COMMA, TK_CONCAT, TK_EQ, TK_LBRACKET,
+    TK_LP, TK_PLUS, TK_RBRACKET, TK_REM, TK_RP, TK_SEMI, TK_STAR,
 };
 use words::bytes::is_blank;
 
@@ -62,11 +62,11 @@ fn eat_lexeme(text: &[u8], start: Cursor, b: u8, profile: Profile) -> Lexed
         b'*' => eat_one_token(text, start, TK_STAR),
         b'/' => eat_slash_or_comment(text, start),
         b'%' => eat_one_token(text, start, TK_REM),
-        b'=' => eat_eq(text, start),
+        b'=' => eat_one_or_two(text, start, TK_EQ, b'=', TK_EQ),
         b'<' => eat_le_or_ne_or_lshift_or_lt(text, start),
         b'>' => eat_ge_or_gt_or_rshift(text, start),
         b'!' => eat_ne(text, start),
-        b'|' => eat_concat_or_bitor(text, start),
+        b'|' => eat_one_or_two(text, start, TK_BITOR, b'|', TK_CONCAT),
         b',' => eat_one_token(text, start, TK_COMMA),
         b'&' => eat_and(text, start, profile),
         b'~' => eat_one_token(text, start, TK_BITNOT),
@@ -102,7 +102,7 @@ fn eat_and(text: &[u8], start: Cursor, profile: Profile) -> Lexed
     ensures { LexesUnder profile text.now start.at result }
 {
     match profile {
-        Profile::Turso => eat_overlap_or_bitand(text, start),
+        Profile::Turso => eat_one_or_two(text, start, TK_BITAND, b'&', TK_ARRAY_OVERLAP),
         Profile::Sqlite => eat_one_token(text, start, TK_BITAND),
     }
 }

@@ -3,7 +3,7 @@ ghost use Rattle.std.specs.Prelude.{◌≡◌, ◌+◌, ◌<◌, length};
 ghost use Rattle.grammar.specs.Form.{blank};
 ghost use Rattle.grammar.specs.Runs.{char};
 ghost use Rattle.grammar.proofs.Reading.{Reads, behind};
-ghost use Rattle.lexer.specs.Eaten.{cursor};
+ghost use Rattle.lexer.specs.Eaten.{cursor, one_or_two};
 ghost use Rattle.grammar.proofs.Places.{At};
 ghost use Rattle.lexer.specs.Values.{Lexes};
 
@@ -12,8 +12,8 @@ use crate::lexed::{Lexed, Refusal, refused, token};
 use crate::parameters::eat_named_var;
 use crate::sets::{Blank, Not};
 use keywords::kinds::{
-    TK_ARRAY_CONTAINS, TK_ARRAY_OVERLAP, TK_BITAND, TK_BITOR, TK_CONCAT, TK_EQ, TK_GE, TK_GT,
-    TK_LE, TK_LSHIFT, TK_LT, TK_MINUS, TK_NE, TK_NONE, TK_PTR, TK_RSHIFT, TK_SLASH,
+    TK_ARRAY_CONTAINS, TK_GE, TK_GT, TK_LE, TK_LSHIFT, TK_LT, TK_MINUS, TK_NE, TK_NONE, TK_PTR,
+    TK_RSHIFT, TK_SLASH,
 };
 
 pub(crate) fn eat_one_token(text: &[u8], start: Cursor, kind: u32) -> Lexed
@@ -21,6 +21,19 @@ pub(crate) fn eat_one_token(text: &[u8], start: Cursor, kind: u32) -> Lexed
     ensures { result ≡ Lexed.Token kind start.at 1 (cursor (start.at + 1)) 0 0 }
 {
     token(kind, start, start.eat(text))
+}
+
+// Of two bytes where the second follows: `==`, `||`, `&&`.
+pub(crate) fn eat_one_or_two(text: &[u8], start: Cursor, one: u32, second: u8, two: u32) -> Lexed
+    requires { start.at < length text.now }
+    ensures { result ≡ one_or_two one second two start.at text.now }
+{
+    let sign = start.eat(text);
+    if sign.sees(text, second) {
+        token(two, start, sign.eat(text))
+    } else {
+        token(one, start, sign)
+    }
 }
 
 pub(crate) fn eat_white_space(text: &[u8], start: Cursor) -> Lexed
@@ -82,17 +95,6 @@ pub(crate) fn eat_comment(text: &[u8], start: Cursor, at: Cursor) -> Lexed
     }
 }
 
-pub(crate) fn eat_eq(text: &[u8], start: Cursor) -> Lexed
-    requires { At (char "=") start.at text.now }
-    ensures { Lexes text.now start.at result }
-{
-    let eq = start.eat(text);
-    if eq.sees(text, b'=') {
-        return token(TK_EQ, start, eq.eat(text));
-    }
-    token(TK_EQ, start, eq)
-}
-
 pub(crate) fn eat_le_or_ne_or_lshift_or_lt(text: &[u8], start: Cursor) -> Lexed
     requires { At (char "<") start.at text.now }
     ensures { Lexes text.now start.at result }
@@ -133,28 +135,6 @@ pub(crate) fn eat_ne(text: &[u8], start: Cursor) -> Lexed
         return token(TK_NE, start, bang.eat(text));
     }
     refused(Refusal::ExpectedEqualsSign, start, bang, start)
-}
-
-pub(crate) fn eat_concat_or_bitor(text: &[u8], start: Cursor) -> Lexed
-    requires { At (char "|") start.at text.now }
-    ensures { Lexes text.now start.at result }
-{
-    let bar = start.eat(text);
-    if bar.sees(text, b'|') {
-        return token(TK_CONCAT, start, bar.eat(text));
-    }
-    token(TK_BITOR, start, bar)
-}
-
-pub(crate) fn eat_overlap_or_bitand(text: &[u8], start: Cursor) -> Lexed
-    requires { At (char "&") start.at text.now }
-    ensures { Lexes text.now start.at result }
-{
-    let and = start.eat(text);
-    if and.sees(text, b'&') {
-        return token(TK_ARRAY_OVERLAP, start, and.eat(text));
-    }
-    token(TK_BITAND, start, and)
 }
 
 // `@>` is the array contains operator; any other `@` starts a parameter.

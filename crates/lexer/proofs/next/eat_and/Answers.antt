@@ -4,14 +4,19 @@ use Rattle.grammar.proofs.Seen.{moved-one, seen-in}
 use Rattle.grammar.proofs.Reading.{spelled-first}
 use Rattle.lexer.proofs.AnswerLaws.{one_token}
 use Rattle.lexer.proofs.NextLaws.{under}
-use Rattle.lexer.proofs.OperatorLaws.{and-lexed}
+use Rattle.grammar.specs.Classes.{operators}
+use Rattle.lexer.proofs.OperatorLaws.{and-lexed, follow, is_operator, one_or_two-lexed}
 use Rattle.lexer.proofs.next.eat_and.Goals as goal
 
 pub eat_one_token-requires : goal.eat_one_token-requires
 eat_one_token-requires c = seen-in _ _ _ c.requires
 
+pub eat_one_or_two-requires : goal.eat_one_or_two-requires
+eat_one_or_two-requires c = seen-in _ _ _ c.requires
+
 pub returns-in-Turso : goal.returns-in-Turso
-returns-in-Turso c = under c.in-Turso.is _ _ _ c.eat_overlap_or_bitand.ensures
+unfolding follow is_operator operators
+returns-in-Turso c = under c.in-Turso.is _ _ _ (one_or_two-lexed 38 38 _ _ c.requires refl refl refl refl refl refl _ c.eat_one_or_two.ensures)
 
 pub returns-in-Sqlite : goal.returns-in-Sqlite
 returns-in-Sqlite c =

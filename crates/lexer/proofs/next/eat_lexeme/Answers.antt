@@ -5,7 +5,7 @@ use Rattle.grammar.specs.Classes.{U, operators}
 use Rattle.grammar.specs.Form.{D, S, one_of, ◌or◌}
 use Rattle.grammar.proofs.Reading.{spelled-first}
 use Rattle.grammar.proofs.Seen.{moved_up, seen-in}
-use Rattle.lexer.proofs.NextLaws.{byte-in, key-lexed, key-lift, key-seen, later, lift, quote-in}
+use Rattle.lexer.proofs.NextLaws.{byte-in, key-lexed, key-lift, key-seen, key-two-lexed, later, lift, quote-in}
 use Rattle.lexer.proofs.OperatorLaws.{follow, is_operator}
 use Rattle.lexer.proofs.ParameterLaws.{dollar-reads}
 use borrow.Author.Rules.{rules}
@@ -35,8 +35,8 @@ eat_slash_or_comment-requires c = key-seen 47 _ _ c.requires.0 c.in-47.is
 pub eat_one_token-requires-in-37 : goal.eat_one_token-requires-in-37
 eat_one_token-requires-in-37 c = seen-in _ _ _ c.requires.0
 
-pub eat_eq-requires : goal.eat_eq-requires
-eat_eq-requires c = key-seen 61 _ _ c.requires.0 c.in-61.is
+pub eat_one_or_two-requires : goal.eat_one_or_two-requires
+eat_one_or_two-requires c = seen-in _ _ _ c.requires.0
 
 pub eat_le_or_ne_or_lshift_or_lt-requires : goal.eat_le_or_ne_or_lshift_or_lt-requires
 eat_le_or_ne_or_lshift_or_lt-requires c = key-seen 60 _ _ c.requires.0 c.in-60.is
@@ -47,8 +47,8 @@ eat_ge_or_gt_or_rshift-requires c = key-seen 62 _ _ c.requires.0 c.in-62.is
 pub eat_ne-requires : goal.eat_ne-requires
 eat_ne-requires c = key-seen 33 _ _ c.requires.0 c.in-33.is
 
-pub eat_concat_or_bitor-requires : goal.eat_concat_or_bitor-requires
-eat_concat_or_bitor-requires c = key-seen 124 _ _ c.requires.0 c.in-124.is
+pub eat_one_or_two-requires-in-124 : goal.eat_one_or_two-requires-in-124
+eat_one_or_two-requires-in-124 c = seen-in _ _ _ c.requires.0
 
 pub eat_one_token-requires-in-44 : goal.eat_one_token-requires-in-44
 eat_one_token-requires-in-44 c = seen-in _ _ _ c.requires.0
@@ -122,8 +122,8 @@ unfolding follow is_operator operators is_digit
 returns-in-37 c = key-lexed 37 _ _ _ _ c.requires.0 c.in-37.is refl refl refl refl _ c.eat_one_token-in-37.ensures
 
 pub returns-in-61 : goal.returns-in-61
-unfolding is_digit
-returns-in-61 c = key-lift 61 _ _ _ _ c.requires.0 c.in-61.is refl _ c.eat_eq.ensures
+unfolding follow is_operator operators is_digit
+returns-in-61 c = key-two-lexed 61 61 _ _ _ _ c.requires.0 c.in-61.is refl refl refl refl refl refl refl _ c.eat_one_or_two.ensures
 
 pub returns-in-60 : goal.returns-in-60
 unfolding is_digit
@@ -138,8 +138,8 @@ unfolding is_digit
 returns-in-33 c = key-lift 33 _ _ _ _ c.requires.0 c.in-33.is refl _ c.eat_ne.ensures
 
 pub returns-in-124 : goal.returns-in-124
-unfolding is_digit
-returns-in-124 c = key-lift 124 _ _ _ _ c.requires.0 c.in-124.is refl _ c.eat_concat_or_bitor.ensures
+unfolding follow is_operator operators is_digit
+returns-in-124 c = key-two-lexed 124 124 _ _ _ _ c.requires.0 c.in-124.is refl refl refl refl refl refl refl _ c.eat_one_or_two-in-124.ensures
 
 pub returns-in-44 : goal.returns-in-44
 unfolding follow is_operator operators is_digit
