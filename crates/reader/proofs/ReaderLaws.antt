@@ -1,9 +1,9 @@
--- The laws of the reader's covered functions. Assumes nothing.
+-- For readers: a part of a text's memory that remains. Assumes nothing.
 use Prim.Native.Nat.{ℕ, ◌+◌, ◌-◌, ◌≤◌}
 use native.Mathlib.Omega.{arith}
-use mathlib.Core.Path.{◌≡◌, refl, sym, ◌∙◌, ap, subst}
+use mathlib.Core.Path.{◌≡◌, refl, ◌∙◌, ap, subst}
 use mathlib.Core.List.{List}
-use lib.ListN.{length, take, drop, length-drop, drop_of_length-le}
+use lib.ListN.{length, take, drop, length-drop}
 use lib.Seq.{take-length}
 use denote.Ref.{Bor}
 use Rattle.reader.specs.Reads.{Remains}
@@ -21,7 +21,3 @@ part-remains text offset at inside e =
   where
     whole : take (length text.now - at) (drop at text.now) ≡ drop at text.now
     whole = subst (λ (n : ℕ). take n (drop at text.now) ≡ drop at text.now) (length-drop at text.now) (take-length (drop at text.now))
-
--- past the end there are the bytes at the end: none
-pub past_same : (s : List ℕ) (offset : ℕ) → length s ≤ offset → drop (length s) s ≡ drop offset s
-past_same s offset past = drop_of_length-le s {i = length s} (omega arith) ∙ sym (drop_of_length-le s past)
