@@ -58,18 +58,12 @@ impl Lexed {
     }
 }
 
+// With no digits.
 pub(crate) fn token(kind: u32, from: Cursor, to: Cursor) -> Lexed
     requires { from.at ≤ to.at }
     ensures { result ≡ Lexed.Token kind from.at (to.at - from.at) to 0 0 }
 {
-    Lexed::Token {
-        kind,
-        start: from.at,
-        length: to.at - from.at,
-        next: to,
-        digits: 0,
-        underscores: 0,
-    }
+    number(kind, from, Tally::begin(to))
 }
 
 pub(crate) fn number(kind: u32, from: Cursor, to: Tally) -> Lexed
