@@ -4,7 +4,7 @@ use native.Mathlib.Omega.{arith}
 use mathlib.Core.Path.{◌≡◌, refl, sym, ◌∙◌, ap, subst}
 use mathlib.Core.Bool.{Bool, true, false, cond}
 use mathlib.Core.List.{List, [], ◌∷◌}
-use lib.ListN.{length, take, drop, length-append}
+use lib.ListN.{length, take, drop}
 use lib.Seq.{take-append_seam}
 use borrow.Author.Tests.{lt-ltb, le-ltb}
 use Rattle.keywords.proofs.Logic.{split}
@@ -57,9 +57,6 @@ takes-room full p r h (b ∷ s) l =
     let m = takes-room full p (onward p r b) (suc h) s (omega (arith, unready-room full r h e)) in
     rw e (omega arith))
 
-front_long : (text row : List ℕ) → length text ≤ length (front text row)
-front_long text row = omega (arith, length-append text (drop (length text) row))
-
 module _ (s : Stream) (row part : List ℕ) where
   abbrev n : ℕ
   n = taken_of s row part
@@ -108,9 +105,6 @@ module _ (s : Stream) (row part : List ℕ) where
     held-front : take m.held new ≡ text_of s row part
     held-front = rw (em, eh, en) (take-append_seam (text_of s row part) (drop (length (text_of s row part)) row))
 
-    pub held-inside : m.held ≤ length new
-    held-inside = rw (em, eh, en) (front_long (text_of s row part) row)
-
     pub offered-lexed : (g : Given) → ready ≡ true → is_over r h ≡ false → Answers m (take m.held new) t g → Offered s row part g new
     offered-lexed g f v x =
         let y = subst (λ (w : List ℕ). Answers m w t g) held-front x in
@@ -124,9 +118,6 @@ module _ (s : Stream) (row : List ℕ) where
   finished-closed g o x = rw o (x, refl)
 
   module _ (h : ℕ) (new : List ℕ) (m : Stream) (eh : h ≡ length (waiting s row)) (en : new ≡ front (waiting s row) row) (em : m ≡ ended s h) where
-    pub ended-inside : m.held ≤ length new
-    ended-inside = rw (em, eh, en) (front_long (waiting s row) row)
-
     pub finished-lexed : (g : Given) → is_closed s.phase ≡ false → Answers m (take m.held new) 0 g → Finished s row g new
     unfolding Finished
     finished-lexed g o x =

@@ -1,6 +1,6 @@
 -- `stream::calls::finish` meets its contract. Assumes nothing.
 use mathlib.Core.Path.{◌≡◌, refl, ap}
-use Rattle.stream.proofs.CallLaws.{finished-closed, ended-inside, finished-lexed, not-closed, refuses}
+use Rattle.stream.proofs.CallLaws.{finished-closed, finished-lexed, not-closed, refuses}
 use Rattle.std.proofs.Common.{rules}
 use Rattle.stream.specs.Calls.{is_closed, last_end}
 use Rattle.stream.specs.declared.stream.Answer.TheVariants.{Closed}
@@ -12,12 +12,6 @@ returns-in-Closed c =
     let told : c.refuse.result.answer ≡ Closed (last_end a.stream) = search rules in
     finished-closed a.stream a.row.now _ (ap is_closed c.in-Closed.is)
     (refuses _ _ "Closed" _ _ refl c.refuse.ensures.left c.refuse.ensures.taken told)
-
-pub answer-requires : goal.answer-requires
-answer-requires c =
-    let a = c.args in
-    let (long, row) = c.bring-held.ensures in
-    ended-inside a.stream a.row.now _ _ _ long row c.end.ensures
 
 pub returns : goal.returns
 returns c =

@@ -2,7 +2,7 @@
 use native.Mathlib.Omega.{arith}
 use mathlib.Core.Path.{◌≡◌, refl, sym, ◌∙◌, ap}
 use borrow.Author.Tests.{not-true, not-false}
-use Rattle.stream.proofs.CallLaws.{taken-inside, held-inside, offered-closed, offered-long, offered-more, offered-over, offered-lexed, not-open, refuses}
+use Rattle.stream.proofs.CallLaws.{taken-inside, offered-closed, offered-long, offered-more, offered-over, offered-lexed, not-open, refuses}
 use Rattle.std.proofs.Common.{rules}
 use Rattle.intake.specs.declared.state.Stream.{Stream}
 use Rattle.stream.specs.Calls.{is_open, last_end}
@@ -47,14 +47,6 @@ returns-then-is_over c =
     let over = refuses _ _ "LexemeTooLong" _ _ refl (kept.left ∙ closing) kept.taken (told ∙ ap (λ (s : Stream). LexemeTooLong (last_end s)) closing) in
     offered-over a.stream a.row.now a.part.now _ _ _ _ _ _ opened c.if-room-part.false took.0 took.1 took.2 took.3 took.4
     c.hold-moved.ensures _ (not-false _ c.if-not-took.false) (sym c.is_over.ensures ∙ c.if-is_over.true) over
-
-pub answer-requires : goal.answer-requires
-answer-requires c =
-    let a = c.args in
-    let took = c.take_in-took.ensures in
-    let opened = ap is_open c.in-Open.is in
-    held-inside a.stream a.row.now a.part.now _ _ _ _ _ _ opened c.if-room-part.false took.0 took.1 took.2 took.3 took.4
-    c.hold-moved.ensures
 
 pub returns : goal.returns
 returns c =
