@@ -11,7 +11,7 @@ use steps::step::step;
 // The longest lexeme.
 const LONGEST: usize = 2048;
 
-// What is held then, and whether no byte more is wanted.
+// What is held then, and whether no byte more is wanted: a flag, since with either value the same three fields are used.
 #[derive(Clone, Copy)]
 pub struct Taken {
     pub reading: Reading,
