@@ -32,13 +32,7 @@ use Rattle.integers.specs.Integers.{up_to, integer_of}
 use Rattle.integers.specs.Calls.{said_of, ReadsInteger}
 use Rattle.integers.proofs.NumberLaws.{Worthy, value-most}
 
--- what begins with `0x` has two bytes
-pub hex-long : (w : List ℕ) → is_hex w ≡ true → 2 ≤ length w
-hex-long [] e = absurd (true≢false (sym e))
-hex-long (a ∷ []) e = absurd (true≢false (sym e))
-hex-long (a ∷ b ∷ w) e = omega arith
-
--- what stands behind it, as the code takes it
+-- what stands behind `0x`, as the code takes it
 rest-whole : (w : List ℕ) → take (length w - 2) (drop 2 w) ≡ drop 2 w
 rest-whole w = take_all (length w - 2) (drop 2 w) (omega (arith, length-drop 2 w))
 
@@ -136,10 +130,7 @@ pub part-read : (p : Profile) (s : List ℕ) (start n d : ℕ) → IsTokenWith p
 unfolding ReadsInteger
 part-read p s start n d h r e = inr (some-digits p s start n (kind "TK_INTEGER") d h, e ∙ ap integer_of (part-is s start n))
 
--- the value of either; what stands behind `0x` is as the code takes it
-pub part-fits : (w : List ℕ) → value 16 (drop 2 w) < 16 ^ 16 → value 16 (take (length w - 2) (drop 2 w)) < 16 ^ 16
-part-fits w h = rw (rest-whole w) h
-
+-- the value of either
 module _ (w : List ℕ) {a : Said} where
   pub decimal-is : is_hex w ≡ false → a ≡ up_to 9223372036854775807 (value 10 w) → a ≡ integer_of w
   unfolding integer_of

@@ -1,11 +1,10 @@
 -- Values up to a limit, two's complement, and how the code computes it. Assumes nothing.
-use Prim.Native.Nat.{ℕ, zero, suc, ◌-◌, ◌^◌, ◌≤◌, ◌<◌}
+use Prim.Native.Nat.{ℕ, suc, ◌-◌, ◌^◌, ◌≤◌, ◌<◌}
 use native.Mathlib.Omega.{arith}
-use native.Mathlib.Nat.{zero-add}
-use mathlib.Core.Path.{◌≡◌, refl, sym, ◌∙◌, ap, subst}
+use mathlib.Core.Path.{◌≡◌, sym, ◌∙◌, ap}
 use mathlib.Core.Bool.{true, false, true≢false}
 use lib.Dec.{leb, ltb}
-use lib.IntN.{ℤ, pos, negsuc, ◌-ℤ◌}
+use lib.IntN.{ℤ, pos, negsuc}
 use lib.Signed.{mag, lt_z}
 use mir.Syntax.{w64}
 use mir.Val.{SFits, to_z, of_z}
@@ -61,51 +60,26 @@ signed-bits (negsuc k) h =
     let e : 2 ^ 64 - suc (2 ^ 64 - suc k) ≡ k = omega arith in
     signed_high (2 ^ 64 - suc k) (omega arith) ∙ ap negsuc e
 
--- -1 - m, for an m that is negative or not
-minus_one : (k : ℕ) → negsuc 0 -ℤ negsuc k ≡ pos k
-minus_one k = rw (le-ltb (suc k) 1 (omega arith)) (ap pos (omega arith))
-
-pub minus-one-minus : (m : ℕ) → negsuc 0 -ℤ pos m ≡ negsuc m
-minus-one-minus zero = refl
-minus-one-minus (suc k) = ap (λ (x : ℕ). negsuc (suc x)) (zero-add k)
-
--- The code hands a value on as its bits and reads it again from them: a negative one, with -1 - v, and one that is not.
-pub record Turned (v : ℤ) : Type 0 where
-  pub low : ℕ
-  pub is : v ≡ negsuc low
-  pub small : low < 2 ^ 63
-  pub fits : SFits w64 (negsuc 0 -ℤ to_z w64 (of_z w64 v))
-  pub back : to_z w64 (of_z w64 (negsuc 0 -ℤ to_z w64 (of_z w64 v))) ≡ pos low
-
-pub record Upright (v : ℤ) : Type 0 where
-  pub low : ℕ
-  pub is : v ≡ pos low
-  pub small : low < 2 ^ 63
-  pub back : to_z w64 (of_z w64 v) ≡ pos low
-
 not-below : (n : ℕ) → lt_z (pos n) (pos 0) ≡ true → ⊥
 not-below n e = true≢false (sym e ∙ le-ltb n 0 (omega arith))
 
-pub turned : (v : ℤ) → SFits w64 v → lt_z (to_z w64 (of_z w64 v)) (pos 0) ≡ true → Turned v
-turned (pos n) f e = absurd (not-below n (ap (λ (z : ℤ). lt_z z (pos 0)) (sym (to_z-of_z w64 (pos n) f)) ∙ e))
-turned (negsuc k) f e =
-    let g : negsuc 0 -ℤ to_z w64 (of_z w64 (negsuc k)) ≡ pos k = ap (λ (z : ℤ). negsuc 0 -ℤ z) (to_z-of_z w64 (negsuc k) f) ∙ minus_one k in
-    let s : k < 2 ^ 63 = f.sfits in
-    let h : SFits w64 (negsuc 0 -ℤ to_z w64 (of_z w64 (negsuc k))) = record { sfits = subst (λ (z : ℤ). mag z < 2 ^ 63) (sym g) s } in
-    record { low = k; is = refl; small = s; fits = h; back = to_z-of_z w64 _ h ∙ g }
+-- the literal of its bits, which std's method gives of a value as the code reads it
+module _ (v : ℤ) (f : SFits w64 v) {n : ℕ} (g : n ≡ of_z w64 (to_z w64 (of_z w64 v))) where
+  bits : n ≡ of_z w64 v
+  bits = g ∙ ap (of_z w64) (to_z-of_z w64 v f)
 
-pub upright : (v : ℤ) → SFits w64 v → lt_z (to_z w64 (of_z w64 v)) (pos 0) ≡ false → Upright v
-upright (pos n) f e = record { low = n; is = refl; small = f.sfits; back = to_z-of_z w64 (pos n) f }
-upright (negsuc k) f e = absurd (true≢false (ap (λ (z : ℤ). lt_z z (pos 0)) (sym (to_z-of_z w64 (negsuc k) f)) ∙ e))
-
--- the literal of its bits
-module _ (v : ℤ) (f : SFits w64 v) {n : ℕ} (g : n ≡ bits_of (to_z w64 (of_z w64 v))) where
   pub below-literal : lt_z (to_z w64 (of_z w64 v)) (pos 0) ≡ true → hexadecimal n ≡ integer_literal v
-  unfolding integer_literal
-  below-literal e =
-      ap hexadecimal (g ∙ ap bits_of (to_z-of_z w64 v f)) ∙ subst (λ (z : ℤ). hexadecimal (bits_of z) ≡ integer_literal z) (sym (turned v f e).is) refl
+  unfolding integer_literal bits_of
+  below-literal e = of v bits (ap (λ (z : ℤ). lt_z z (pos 0)) (sym (to_z-of_z w64 v f)) ∙ e)
+    where
+      of : (z : ℤ) → n ≡ of_z w64 z → lt_z z (pos 0) ≡ true → hexadecimal n ≡ integer_literal z
+      of (pos m) b l = absurd (not-below m l)
+      of (negsuc k) b l = ap hexadecimal b
 
   pub above-literal : lt_z (to_z w64 (of_z w64 v)) (pos 0) ≡ false → decimal n ≡ integer_literal v
-  unfolding integer_literal bits_of
-  above-literal e =
-      ap decimal (g ∙ ap bits_of (to_z-of_z w64 v f)) ∙ subst (λ (z : ℤ). decimal (bits_of z) ≡ integer_literal z) (sym (upright v f e).is) refl
+  unfolding integer_literal
+  above-literal e = of v bits (ap (λ (z : ℤ). lt_z z (pos 0)) (sym (to_z-of_z w64 v f)) ∙ e)
+    where
+      of : (z : ℤ) → n ≡ of_z w64 z → lt_z z (pos 0) ≡ false → decimal n ≡ integer_literal z
+      of (pos m) b l = ap decimal b
+      of (negsuc k) b l = absurd (true≢false l)

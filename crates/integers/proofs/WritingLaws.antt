@@ -6,9 +6,11 @@ use mathlib.Core.Path.{◌≡◌, refl, sym, ◌∙◌, ap, subst}
 use mathlib.Core.Bool.{Bool, true}
 use mathlib.Core.List.{List, [], ◌∷◌, ◌++◌, append_assoc, append-nil}
 use lib.Dec.{ltb}
-use lib.ListN.{length, get_or, take, drop, set, length-append, length-drop, take-append-drop}
-use lib.Seq.{take-suc, set_at, length-take-le}
+use lib.ListN.{length, get_or, take, drop, set, length-append, length-drop, take-append-drop, drop_of_length-le}
+use lib.Seq.{take-suc, set_at, length-take-le, drop-drop}
 use borrow.Author.Tests.{lt-ltb, le-ltb}
+use borrow.Rule.Slice.PartMut.{put_mid}
+use Rattle.keywords.specs.Text.{bytes}
 use Rattle.keywords.proofs.Logic.{split, and_left, and_right, every}
 use Rattle.buffers.specs.Buffers.{Said, before, Fills}
 use Rattle.hexdigits.specs.Digits.{digit}
@@ -125,8 +127,17 @@ pub back_none : {v old out : List ℕ} (head : List ℕ) (base k left : ℕ) →
 unfolding padded
 back_none {v} {old} {out} head base k left f e = let i : head ++ padded base k left ≡ head = rw e (append-nil head) in subst (Backing v old out) i f
 
-pub back-ends : {v old out : List ℕ} → Backing v old out [] → out ≡ before v old
-back-ends {v} {old} f = f.holds ∙ ap (λ (x : List ℕ). x ++ drop (length v) old) (sym f.whole)
+-- where it is as long as v it is v
+pub back-full : {v old out : List ℕ} → length v ≡ length old → Backing v old out [] → out ≡ v
+back-full {v} {old} e f = f.holds ∙ ap (λ (x : List ℕ). x ++ drop (length v) old) (sym f.whole) ∙ rw (drop_of_length-le old {i = length v} (omega arith)) (append-nil v)
+
+-- digits behind `0x`, as the code puts them there
+pub prefixed : {front places : List ℕ} (b : List ℕ) (n : ℕ) → front ≡ bytes "0x" → places ≡ padded 16 16 n
+    → put_mid 2 16 (front ++ drop 2 b) places ≡ before (hexadecimal n) b
+unfolding hexadecimal
+prefixed {front} {places} b n e f =
+    rw (e, f)
+    (ap (λ (w : List ℕ). 48 ∷ 120 ∷ padded 16 16 n ++ w) (drop-drop 16 2 b ∙ ap (λ (k : ℕ). drop k b) (sym (hexadecimal-long n))))
 
 -- a result by another name
 pub fills-as : {v w old new : List ℕ} {a : Said} → v ≡ w → Fills v old a new → Fills w old a new

@@ -1,5 +1,5 @@
 // The literal of an integer: decimal, of a negative one `0x` and sixteen digits.
-ghost use Rattle.std.specs.Prelude.{◌≡◌, ◌/◌, ◌≤◌, length};
+ghost use Rattle.std.specs.Prelude.{◌≡◌, ◌/◌, ◌≤◌, ◌<◌, length};
 ghost use Rattle.buffers.specs.Buffers.{said_of, before, Fills};
 ghost use Rattle.integers.specs.Numbers.{width, padded};
 ghost use Rattle.integers.specs.Integers.{bits_of, decimal, hexadecimal};
@@ -12,19 +12,9 @@ pub fn write_integer(value: i64, buffer: &mut [u8]) -> Result<usize, NoRoom>
     ensures { WritesInteger value buffer.old result buffer.new }
 {
     if value < 0 {
-        return write_hexadecimal(bits_of(value), buffer);
+        return write_hexadecimal(value.cast_unsigned(), buffer);
     }
-    write_decimal(bits_of(value), buffer)
-}
-
-// The 64 bits of a value.
-fn bits_of(value: i64) -> u64
-    ensures { result ≡ bits_of value }
-{
-    if value < 0 {
-        return 18446744073709551615 - ((-1 - value) as u64);
-    }
-    value as u64
+    write_decimal(value.cast_unsigned(), buffer)
 }
 
 fn write_decimal(n: u64, buffer: &mut [u8]) -> Result<usize, NoRoom>
@@ -34,7 +24,7 @@ fn write_decimal(n: u64, buffer: &mut [u8]) -> Result<usize, NoRoom>
     if buffer.len() < count {
         return Err(NoRoom);
     }
-    put_decimal(buffer, count, n);
+    put_digits::<10>(&mut buffer[..count], n);
     Ok(count)
 }
 
@@ -61,42 +51,25 @@ fn tenth(n: u64) -> u64
     (high / 10) as u64 * 4294967296 + (middle / 10) as u64 * 65536 + (last / 10) as u64
 }
 
-// n in so many digits at the buffer's front, the last one first.
-fn put_decimal(buffer: &mut [u8], count: usize, n: u64)
-    requires { count ≤ length buffer.old }
-    ensures { buffer.new ≡ before (padded 10 count n) buffer.old }
-{
-    let mut k = count;
-    let mut left = n;
-    while 0 < k {
-        k -= 1;
-        buffer[k] = digit((left % 10) as u8);
-        left = tenth(left);
-    }
-}
-
 fn write_hexadecimal(bits: u64, buffer: &mut [u8]) -> Result<usize, NoRoom>
     ensures { Fills (hexadecimal bits) buffer.old (said_of result) buffer.new }
 {
     if buffer.len() < 18 {
         return Err(NoRoom);
     }
-    put_hexadecimal(buffer, bits);
+    buffer[..2].copy_from_slice(b"0x");
+    put_digits::<16>(&mut buffer[2..18], bits);
     Ok(18)
 }
 
-// `0x` and sixteen digits, the last one first.
-fn put_hexadecimal(buffer: &mut [u8], bits: u64)
-    requires { 18 ≤ length buffer.old }
-    ensures { buffer.new ≡ before (hexadecimal bits) buffer.old }
+// n in as many digits of a base as there are places, the last one first.
+fn put_digits<const BASE: u64>(places: &mut [u8], n: u64)
+    requires { (0 < BASE) × (BASE ≤ 16) }
+    ensures { places.new ≡ padded BASE (length places.old) n }
 {
-    let mut k = 18;
-    let mut left = bits;
-    while 2 < k {
-        k -= 1;
-        buffer[k] = digit((left % 16) as u8);
-        left = left / 16;
+    let mut left = n;
+    for k in (0..places.len()).rev() {
+        places[k] = digit((left % BASE) as u8);
+        left = if BASE == 10 { tenth(left) } else { left / BASE };
     }
-    buffer[1] = b'x';
-    buffer[0] = b'0';
 }

@@ -53,14 +53,15 @@ overflow_add-n c =
 pub loop-b-preserved : goal.loop-b-preserved
 loop-b-preserved c =
     elim c.if-b-ne95.branch [
-      | then-b-ne95+else-most-n+else-n-most w ↦
-          (rw w.n-is (naming-digit c.loop-b.invariant.0 (omega arith) w.if-b-ne95.true w.worth-d.ensures),
-          rw w.n-is
-          (elim w.else-n-most.branch [
-            | else-n-most-via-then-n-most+else-last-d v ↦ stays_at _ _ _ _ _ v.if-n-most.true v.if-last-d.false
-            | else-n-most-via-else-n-most v ↦
-                stays-below _ _ _ _ _ (omega (arith, small _ _ w.worth-d.ensures, c.requires.1)) (omega (arith, w.if-most-n.false, v.if-n-most.false))
-          ]))
+      | then-b-ne95+else-most-n+else-n-most w ↦ (
+        rw w.n-is (naming-digit c.loop-b.invariant.0 (omega arith) w.if-b-ne95.true w.worth-d.ensures),
+        rw w.n-is
+            (elim w.else-n-most.branch [
+              | else-n-most-via-then-n-most+else-last-d v ↦ stays_at _ _ _ _ _ v.if-n-most.true v.if-last-d.false
+              | else-n-most-via-else-n-most v ↦
+                  stays-below _ _ _ _ _ (omega (arith, small _ _ w.worth-d.ensures, c.requires.1)) (omega (arith, w.if-most-n.false, v.if-n-most.false))
+            ]),
+      )
       | else-b-ne95 w ↦ (rw w.n-is (naming-underscore c.loop-b.invariant.0 (omega arith) w.if-b-ne95.false), rw w.n-is c.loop-b.invariant.1)
     ]
 
