@@ -16,7 +16,7 @@ use records::WIDTH;
 const MOST_RECORDS: usize = 65535;
 
 // An index is that of the record at fault, the first; of those left open it is the innermost.
-#[derive(Clone, Copy)]
+#[derive(Clone, Copy, PartialEq, Eq, Debug)]
 pub enum PairError {
     NotRecords,
     TooLong,
