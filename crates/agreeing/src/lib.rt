@@ -14,7 +14,7 @@ use places::FIRST;
 use records::Record;
 
 // `ListDiffers` is at the first record that differs, is surplus or is missing.
-#[derive(Clone, Copy)]
+#[derive(Clone, Copy, PartialEq, Eq, Debug)]
 pub enum CheckError {
     TooLong,
     ListDiffers { index: usize },
