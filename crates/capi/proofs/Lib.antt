@@ -1,2 +1,1 @@
-pub mod NumberLaws
 pub mod Theorems

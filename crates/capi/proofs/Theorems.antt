@@ -13,7 +13,8 @@ use Rattle.lists.specs.Parts.{spent_in}
 use Rattle.lists.proofs.Theorems as lists
 use Rattle.lists.proofs.PartTheorems as parts
 use Rattle.records.specs.declared.Record.{Record}
-use Rattle.agreeing.specs.declared.Checked.{Checked}
+use Rattle.std.specs.Prelude.{Result}
+use Rattle.agreeing.specs.declared.CheckError.{CheckError}
 use Rattle.agreeing.specs.Agreeing.{verdict_of}
 use Rattle.agreeing.proofs.Theorems as agreeing
 use Rattle.brackets.specs.Numbers.{outcome}
@@ -79,7 +80,7 @@ pub check-unique : (s : List ℕ) (profile : ℕ) (records : List Record) (old m
 check-unique s profile records old m n k l =
     by-profile (profile_of profile) _ _ _ _ _
     (λ p x y. let e = agreeing.check-unique _ records y.answer x.answer y.owed x.owed in
-    given-unique (verdict_of x.answer) m n k l x.gave (subst (λ (a : Checked). GaveVerdict (verdict_of a) n l) e y.gave))
+    given-unique (verdict_of x.answer) m n k l x.gave (subst (λ (a : Result (Unit {0}) CheckError). GaveVerdict (verdict_of a) n l) e y.gave))
     (λ x y. (x.0 ∙ sym y.0, x.1 ∙ sym y.1))
 
 pub pair-unique : (numbers old : List ℕ) (m n k l : ℕ) (new new' : List ℕ)

@@ -1,6 +1,6 @@
 -- What the calls owe: the numbers of an answer that the call below them owes under the profile whose number is given; for a number that is
 -- no profile's a status of its own, and everything lent as it was. Assumes nothing.
-use Rattle.std.specs.Prelude.{ℕ, ◌≡◌, List}
+use Rattle.std.specs.Prelude.{ℕ, ◌≡◌, List, Result}
 use Rattle.grammar.specs.Longest.{Source, source}
 use Rattle.lexer.specs.declared.lexed.Lexed.{Lexed}
 use Rattle.lexer.specs.Values.{LexesUnder}
@@ -11,7 +11,7 @@ use Rattle.lists.specs.declared.part.Part.{Part}
 use Rattle.lists.specs.Lists.{records_in, Lists}
 use Rattle.lists.specs.Parts.{spent_in, Parts}
 use Rattle.records.specs.declared.Record.{Record}
-use Rattle.agreeing.specs.declared.Checked.{Checked}
+use Rattle.agreeing.specs.declared.CheckError.{CheckError}
 use Rattle.agreeing.specs.Agreeing.{Checks, verdict_of}
 use Rattle.brackets.specs.Numbers as Brackets
 use Rattle.codes.specs.declared.answers.Numbers.{Numbers}
@@ -83,7 +83,7 @@ CutCall s at profile lent status six =
 
 -- the check of a list, with the index before and after
 pub record CheckNumbers (s : Source) (records : List Record) (status index : ℕ) : Type 0 where
-  pub answer : Checked
+  pub answer : Result (Unit {0}) CheckError
   pub owed : Checks s records answer
   pub gave : GaveVerdict (verdict_of answer) status index
 

@@ -12,7 +12,7 @@ ghost use Rattle.capi.specs.Calls.{NextCall, ListCall, PartCall, CountCall, CutC
 
 use agreeing::check_list;
 use codes::answers::UNKNOWN_PROFILE;
-use codes::profiles::{Chosen, profile_of};
+use codes::profiles::profile_of;
 use codes::told::{give, of_cut, of_list, of_next, of_part, spent_in};
 use cuts::cut;
 use lexer::cursor::Cursor;
@@ -21,7 +21,6 @@ use lists::part::list_part;
 use packets::calls::{begin_numbers, finish_numbers, offer_numbers};
 use pairs::pair;
 use records::Record;
-use verdicts::choose;
 use verdicts::pairing::give_pairing;
 use words::lookup::{is_quotable_keyword, keyword_or_id_token};
 
@@ -34,7 +33,7 @@ pub extern "C" fn sqllex_next(
 ) -> u32
     ensures { NextCall text.now offset profile answer.old result answer.new }
 {
-    let Chosen::Known(profile) = profile_of(profile) else {
+    let Some(profile) = profile_of(profile) else {
         return UNKNOWN_PROFILE;
     };
     give(of_next(next(text, Cursor { at: offset }, profile)), answer)
@@ -50,7 +49,7 @@ pub extern "C" fn sqllex_list_from(
 ) -> u32
     ensures { ListCall text.now offset profile list.old answer.old result answer.new list.new }
 {
-    let Chosen::Known(profile) = profile_of(profile) else {
+    let Some(profile) = profile_of(profile) else {
         return UNKNOWN_PROFILE;
     };
     give(
@@ -71,7 +70,7 @@ pub extern "C" fn sqllex_list_part(
 ) -> u32
     ensures { PartCall text.now offset profile allowance list.old slice.old result slice.new list.new }
 {
-    let Chosen::Known(profile) = profile_of(profile) else {
+    let Some(profile) = profile_of(profile) else {
         return UNKNOWN_PROFILE;
     };
     let part = list_part(text, Cursor { at: offset }, profile, allowance, list);
@@ -85,7 +84,7 @@ pub extern "C" fn sqllex_list_part(
 pub extern "C" fn sqllex_list(text: &[u8], profile: u32, list: &mut [u32]) -> u64
     ensures { CountCall text.now profile list.old result list.new }
 {
-    let Chosen::Known(profile) = profile_of(profile) else {
+    let Some(profile) = profile_of(profile) else {
         return 0;
     };
     let answer = of_list(lists::list::list(text, Cursor { at: 0 }, profile, list));
@@ -101,7 +100,7 @@ pub extern "C" fn sqllex_cut(
 ) -> u32
     ensures { CutCall text.now offset profile answer.old result answer.new }
 {
-    let Chosen::Known(profile) = profile_of(profile) else {
+    let Some(profile) = profile_of(profile) else {
         return UNKNOWN_PROFILE;
     };
     give(of_cut(cut(text, Cursor { at: offset }, profile)), answer)
@@ -117,12 +116,10 @@ pub extern "C" fn sqllex_check_list(
 ) -> u32
     ensures { CheckCall text.now profile records.now index.old result index.new }
 {
-    let chosen = choose(profile);
-    if !chosen.known {
-        return UNKNOWN_PROFILE;
+    match profile_of(profile) {
+        Some(profile) => verdicts::give(check_list(text, profile, records), index),
+        None => UNKNOWN_PROFILE,
     }
-    let checked = check_list(text, chosen.profile, records);
-    verdicts::give(checked, index)
 }
 
 // The brackets of a list of records. It lexes nothing, and takes no profile.
