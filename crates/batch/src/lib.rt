@@ -3,20 +3,16 @@
 
 mod pairing;
 
-ghost use Rattle.rows.specs.Out.{Within};
-ghost use Rattle.printing.specs.Rows.{Holds};
-
 use crate::pairing::put_pairing;
 use grammar::profile::Profile;
 use printing::MOST;
-use printing::answers::Way;
+use printing::answers::{Source, Way};
 use printing::blocks::{
     put_cut_block, put_list_block, put_part_block, put_stream_block, put_walk_block, put_word_block,
 };
-use printing::input::{Record, Unread, read_record, unread_none};
-use printing::kinds::all_names;
+use printing::input::{NoRecord, Records};
 use printing::replay::put_replay;
-use rows::out::{flush, put};
+use rows::out::Out;
 use shown::numbers::is_numbers_record;
 use shown::reads::{is_literal_record, put_literals};
 use shown::writes::{is_write_record, put_writes};
@@ -41,107 +37,65 @@ pub enum Mode {
     Replay,
 }
 
+// What is lent to the calls whose answers are printed. `numbers`: four more than a list fills, for `Replay`. `given`: the numbers that a
+// record's text is, of which the longest has so many. `held`: what a stream holds. `bytes`: what is read of literals, and what is written:
+// no record of `shown` asks for more.
+#[derive(Drop)]
+struct Lent<'a> {
+    numbers: &'a mut [u32],
+    given: &'a mut [u32],
+    held: &'a mut [u8; 2050],
+    bytes: &'a mut [u8],
+}
+
 // Answers each record of standard input under the profile; a word's lookup, what is written and what is paired have none. One that is too
 // long or cut off, or cannot be read, or that the mode does not take, prints BADRECORD and is the last.
 pub fn print_records(rt: &(impl Input + Print + Eprint), mode: Mode, profile: Profile) {
-    let names = all_names();
-    // `Replay` lends four more than a list fills.
-    let mut numbers = [0u32; MOST + 4];
-    // The numbers that a record's text is: the longest has so many.
-    let mut given = [0u32; 16384];
-    // What a stream holds.
-    let mut held = [0u8; 2050];
-    // What is read of literals, and what is written: no record of `shown` asks for more.
-    let mut lent = [0u8; 262144];
     let mut row = [0u8; 131072];
-    let mut out = [0u8; 65536];
-    answer_records(
+    let mut bytes = [0u8; 65536];
+    let mut out = Out::new(rt, &mut bytes, 0);
+    let mut lent = Lent {
+        numbers: &mut [0u32; MOST + 4],
+        given: &mut [0u32; 16384],
+        held: &mut [0u8; 2050],
+        bytes: &mut [0u8; 262144],
+    };
+    put_answers(
         rt,
         &mut rt.reader(),
+        &mut Records::new(&mut row, 0, 0),
         mode,
         profile,
-        &names,
-        &mut numbers,
-        &mut given,
-        &mut held,
         &mut lent,
-        &mut row,
         &mut out,
     );
+    out.finish();
 }
 
-// A loop has to end, and nothing says that the input does: it counts down from a number that no input uses up.
-fn answer_records(
-    rt: &(impl Print + Eprint),
+// A loop has to end, and nothing says that the input does: it counts up to a number that no input uses up.
+fn put_answers(
+    rt: &impl Eprint,
     input: &mut impl Read,
+    records: &mut Records,
     mode: Mode,
     profile: Profile,
-    names: &[u8; 2992],
-    numbers: &mut [u32],
-    given: &mut [u32; 16384],
-    held: &mut [u8; 2050],
-    lent: &mut [u8; 262144],
-    row: &mut [u8],
-    out: &mut [u8],
+    lent: &mut Lent,
+    out: &mut Out<'_, impl Print + Eprint>,
 ) {
-    let mut unread = unread_none();
-    let mut at = 0;
-    let mut turns = u64::MAX;
-    while turns > 0 {
-        let read = read_record(rt, input, row, unread);
-        let found = taken(row, mode, read);
-        let Record::Text {
-            offset,
-            start,
-            end,
-            to,
-        } = found
-        else {
-            print_last(rt, out, at, found);
-            return;
-        };
-        at = put_answer(
-            rt,
-            out,
-            at,
-            mode,
-            profile,
-            names,
-            &row[start..end],
-            offset,
-            numbers,
-            given,
-            held,
-            lent,
-        );
-        unread = Unread {
-            from: end,
-            to,
-            failed: false,
-        };
-        turns -= 1;
+    for _ in 0..u64::MAX {
+        match records.next(rt, input) {
+            Ok(offset) if is_taken(mode, records.text(), offset) => {
+                let source = Source {
+                    text: records.text(),
+                    offset,
+                    profile,
+                };
+                put_answer(out, mode, source, lent);
+            }
+            Err(NoRecord::Over) => return,
+            _ => return println!(out; "BADRECORD"),
+        }
     }
-    flush(rt, out, at);
-}
-
-// A record that the mode does not take is a bad one.
-fn taken(row: &[u8], mode: Mode, found: Record) -> Record
-    requires { Holds row.now found }
-    ensures { Holds row.now result }
-{
-    let Record::Text {
-        offset,
-        start,
-        end,
-        to: _,
-    } = found
-    else {
-        return found;
-    };
-    if is_taken(mode, &row[start..end], offset) {
-        return found;
-    }
-    Record::Bad
 }
 
 fn is_taken(mode: Mode, text: &[u8], offset: usize) -> bool {
@@ -153,44 +107,23 @@ fn is_taken(mode: Mode, text: &[u8], offset: usize) -> bool {
     }
 }
 
-fn print_last(rt: &(impl Print + Eprint), out: &mut [u8], at: usize, found: Record) {
-    let Record::Over = found else {
-        let end = put(rt, out, at, b"BADRECORD\n");
-        flush(rt, out, end);
-        return;
-    };
-    flush(rt, out, at);
-}
-
-fn put_answer(
-    rt: &(impl Print + Eprint),
-    out: &mut [u8],
-    at: usize,
-    mode: Mode,
-    profile: Profile,
-    names: &[u8; 2992],
-    text: &[u8],
-    offset: usize,
-    numbers: &mut [u32],
-    given: &mut [u32; 16384],
-    held: &mut [u8; 2050],
-    lent: &mut [u8; 262144],
-) -> usize
-    ensures { Within out.new result }
-{
+fn put_answer(out: &mut Out<'_, impl Print + Eprint>, mode: Mode, source: Source, lent: &mut Lent) {
+    let Source {
+        text,
+        offset,
+        profile,
+    } = source;
     match mode {
-        Mode::Next => put_walk_block(rt, out, at, names, text, offset, Way::Next, profile),
-        Mode::Sums => put_walk_block(rt, out, at, names, text, offset, Way::Sums, profile),
-        Mode::List(n) => put_list_block(rt, out, at, text, offset, profile, numbers, n),
-        Mode::Part(n, allowance) => {
-            put_part_block(rt, out, at, text, offset, profile, allowance, numbers, n)
-        }
-        Mode::Cut => put_cut_block(rt, out, at, text, offset, profile),
-        Mode::Word => put_word_block(rt, out, at, names, text),
-        Mode::Stream => put_stream_block(rt, out, at, names, text, profile, held),
-        Mode::Literal => put_literals(rt, out, at, text, offset, profile, lent),
-        Mode::Write => put_writes(rt, out, at, text, offset, lent),
-        Mode::Pair(n) => put_pairing(rt, out, at, text, given, numbers, n),
-        Mode::Replay => put_replay(rt, out, at, names, text, offset, profile, numbers),
+        Mode::Next => put_walk_block(out, source, Way::Next),
+        Mode::Sums => put_walk_block(out, source, Way::Sums),
+        Mode::List(n) => put_list_block(out, source, lent.numbers, n),
+        Mode::Part(n, allowance) => put_part_block(out, source, allowance, lent.numbers, n),
+        Mode::Cut => put_cut_block(out, source),
+        Mode::Word => put_word_block(out, text),
+        Mode::Stream => put_stream_block(out, text, profile, lent.held),
+        Mode::Literal => put_literals(out, text, offset, profile, lent.bytes),
+        Mode::Write => put_writes(out, text, offset, lent.bytes),
+        Mode::Pair(n) => put_pairing(out, text, lent.given, lent.numbers, n),
+        Mode::Replay => put_replay(out, source, lent.numbers),
     }
 }
