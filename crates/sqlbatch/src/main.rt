@@ -4,11 +4,11 @@
 
 mod arguments;
 
-use crate::arguments::{Asked, read_arguments};
+use crate::arguments::read_arguments;
 use batch::print_records;
 
 fn main(rt: HostRuntime) {
-    let Asked::For(mode, profile) = read_arguments(&rt) else {
+    let Some((mode, profile)) = read_arguments(&rt) else {
         let _told = rt.write_all(
             b"sqlbatch MODE [PROFILE], where MODE is next, sums, list N (N from 0 to 327675), part N A (A from 0 to 4294967295), cut, word, stream, literal, write or pair N, and PROFILE, not for word, write and pair, turso or sqlite\n",
         );
