@@ -1,9 +1,9 @@
 // The line of a place of a text, found by going along the text.
 #![tactic(auto)]
 
-ghost use Rattle.std.specs.Prelude.{◌≡◌, ◌+◌, ◌≤◌, min, length};
+ghost use Rattle.std.specs.Prelude.{◌≡◌, ◌+◌, ◌≤◌, length};
 ghost use Rattle.std.proofs.Math.Seq.{slice};
-ghost use Rattle.places.specs.Lines.{most, line_over, has_newline, Clear, FirstNewline};
+ghost use Rattle.places.specs.Lines.{line_over, has_newline, Clear, FirstNewline};
 
 // The byte that ends a line.
 pub const NEWLINE: u8 = 0x0A;
@@ -25,7 +25,7 @@ pub const FIRST: Line = Line {
 pub fn line_behind(text: &[u8], from: usize, to: usize, line: Line) -> Line
     ensures { result ≡ line_over line from (slice from to text.now) }
 {
-    let end = least(to, text.len());
+    let end = to.min(text.len());
     if end <= from {
         return line;
     }
@@ -37,7 +37,7 @@ pub fn line_behind(text: &[u8], from: usize, to: usize, line: Line) -> Line
             return here;
         }
         here = Line {
-            number: one_more(here.number),
+            number: here.number.saturating_add(1),
             start: stop + 1,
         };
         at = stop + 1;
@@ -49,28 +49,24 @@ fn next_newline(text: &[u8], from: usize, to: usize) -> usize
     requires { (from ≤ to) × (to ≤ length text.now) }
     ensures { FirstNewline text.now from to result }
 {
-    let mut at = skip_fours(text, from, to);
-    while at < to {
+    for at in skip_fours(text, from, to)..to {
         if text[at] == NEWLINE {
             return at;
         }
-        at += 1;
     }
-    at
+    to
 }
 
 fn skip_fours(text: &[u8], from: usize, to: usize) -> usize
     requires { (from ≤ to) × (to ≤ length text.now) }
     ensures { Clear text.now from to result }
 {
-    let mut at = from;
-    while 4 <= to - at {
-        if four_have_newline(text, at) {
+    for at in (from..to).step_by(4) {
+        if to - at < 4 || four_have_newline(text, at) {
             return at;
         }
-        at += 4;
     }
-    at
+    to
 }
 
 fn four_have_newline(text: &[u8], at: usize) -> bool
@@ -87,16 +83,4 @@ fn four_have_newline(text: &[u8], at: usize) -> bool
         return true;
     }
     text[at + 3] == NEWLINE
-}
-
-fn least(a: usize, b: usize) -> usize
-    ensures { result ≡ min a b }
-{
-    if a < b { a } else { b }
-}
-
-fn one_more(n: u32) -> u32
-    ensures { result ≡ min (n + 1) most }
-{
-    if n < u32::MAX { n + 1 } else { n }
 }

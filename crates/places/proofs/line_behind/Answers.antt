@@ -4,18 +4,17 @@ use Rattle.places.proofs.LineLaws.{along-begins, along-none, along-ends, along-b
 use Rattle.places.proofs.line_behind.Goals as goal
 
 pub returns-then-end-from : goal.returns-then-end-from
-returns-then-end-from c = along-none _ _ _ _ _ c.least-end.ensures c.if-end-from.true
+returns-then-end-from c = along-none _ _ _ _ _ c.min-end.ensures c.if-end-from.true
 
 pub loop-here-init : goal.loop-here-init
-loop-here-init c = along-begins _ _ _ _ _ c.least-end.ensures c.if-end-from.false
+loop-here-init c = along-begins _ _ _ _ _ c.min-end.ensures c.if-end-from.false
 
 pub next_newline-stop-requires : goal.next_newline-stop-requires
 next_newline-stop-requires c = (c.loop-here.invariant.left, c.loop-here.invariant.inside)
 
 pub returns-then-stop-end : goal.returns-then-stop-end
 returns-then-stop-end c =
-    let least = c.least-end in
-    along-ends c.loop-here.invariant c.next_newline-stop.ensures c.if-stop-end.true _ least.ensures
+    along-ends c.loop-here.invariant c.next_newline-stop.ensures c.if-stop-end.true _ c.min-end.ensures
 
 pub overflow_add-here : goal.overflow_add-here
 overflow_add-here c =
@@ -43,4 +42,4 @@ loop-here-preserved c =
     let if2 = c.if-stop-end in
     let next-newline = c.next_newline-stop in
     let loop = c.loop-here in
-    along-on loop.invariant next-newline.ensures if2.false _ c.one_more.ensures
+    along-on loop.invariant next-newline.ensures if2.false _ c.saturating_add.ensures

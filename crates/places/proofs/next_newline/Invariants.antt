@@ -1,10 +1,6 @@
 -- `places::next_newline` meets its contract. Assumes nothing.
-use Prim.Native.Nat.{◌-◌}
 use Rattle.places.specs.Lines.{Clear}
 use Rattle.places.proofs.next_newline.Given as goal
 
 abbrev pub invariant-loop-at : goal.invariant-loop-at
 invariant-loop-at l = Clear l.text l.from l.to l.at
-
-abbrev pub decreases-loop-at : goal.decreases-loop-at
-decreases-loop-at l = l.to - l.at
