@@ -9,9 +9,6 @@ use Rattle.lexer.proofs.next.eat_at.Goals as goal
 pub eat_named_var-requires : goal.eat_named_var-requires
 eat_named_var-requires c = moved_up _ _ _ c.eat.ensures
 
-pub returns-in-Turso : goal.returns-in-Turso
-returns-in-Turso c = under c.in-Turso.is _ _ _ c.eat_array_contains_or_var.ensures
-
 pub returns-in-Sqlite : goal.returns-in-Sqlite
 returns-in-Sqlite c =
     under c.in-Sqlite.is _ _ _ (c.eat_named_var.ensures Sqlite (sqlite-at (spelled-first 64 _ _ c.requires c.eat.ensures)))

@@ -15,6 +15,3 @@ unfolding follow is_operator operators
 returns-in-Turso c =
     let lexed = one-lexed 91 _ _ c.requires (sym (moved-one _ _ _ c.requires)) refl refl (misses-none _) _ (c.eat_one_token.ensures ∙ sym (one_token _ _ _ refl)) in
     under c.in-Turso.is _ _ _ lexed
-
-pub returns-in-Sqlite : goal.returns-in-Sqlite
-returns-in-Sqlite c = under c.in-Sqlite.is _ _ _ c.eat_bracketed.ensures

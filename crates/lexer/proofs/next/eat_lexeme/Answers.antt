@@ -11,9 +11,6 @@ use Rattle.lexer.proofs.ParameterLaws.{dollar-reads}
 use borrow.Author.Rules.{rules}
 use Rattle.lexer.proofs.next.eat_lexeme.Goals as goal
 
-pub eat_minus_or_comment_or_ptr-requires : goal.eat_minus_or_comment_or_ptr-requires
-eat_minus_or_comment_or_ptr-requires c = key-seen 45 _ _ c.requires.0 c.in-45.is
-
 pub eat_one_token-requires : goal.eat_one_token-requires
 eat_one_token-requires c = seen-in _ _ _ c.requires.0
 
@@ -29,23 +26,11 @@ eat_one_token-requires-in-43 c = seen-in _ _ _ c.requires.0
 pub eat_one_token-requires-in-42 : goal.eat_one_token-requires-in-42
 eat_one_token-requires-in-42 c = seen-in _ _ _ c.requires.0
 
-pub eat_slash_or_comment-requires : goal.eat_slash_or_comment-requires
-eat_slash_or_comment-requires c = key-seen 47 _ _ c.requires.0 c.in-47.is
-
 pub eat_one_token-requires-in-37 : goal.eat_one_token-requires-in-37
 eat_one_token-requires-in-37 c = seen-in _ _ _ c.requires.0
 
 pub eat_one_or_two-requires : goal.eat_one_or_two-requires
 eat_one_or_two-requires c = seen-in _ _ _ c.requires.0
-
-pub eat_le_or_ne_or_lshift_or_lt-requires : goal.eat_le_or_ne_or_lshift_or_lt-requires
-eat_le_or_ne_or_lshift_or_lt-requires c = key-seen 60 _ _ c.requires.0 c.in-60.is
-
-pub eat_ge_or_gt_or_rshift-requires : goal.eat_ge_or_gt_or_rshift-requires
-eat_ge_or_gt_or_rshift-requires c = key-seen 62 _ _ c.requires.0 c.in-62.is
-
-pub eat_ne-requires : goal.eat_ne-requires
-eat_ne-requires c = key-seen 33 _ _ c.requires.0 c.in-33.is
 
 pub eat_one_or_two-requires-in-124 : goal.eat_one_or_two-requires-in-124
 eat_one_or_two-requires-in-124 c = seen-in _ _ _ c.requires.0
@@ -53,38 +38,14 @@ eat_one_or_two-requires-in-124 c = seen-in _ _ _ c.requires.0
 pub eat_one_token-requires-in-44 : goal.eat_one_token-requires-in-44
 eat_one_token-requires-in-44 c = seen-in _ _ _ c.requires.0
 
-pub eat_and-requires : goal.eat_and-requires
-eat_and-requires c = key-seen 38 _ _ c.requires.0 c.in-38.is
-
 pub eat_one_token-requires-in-126 : goal.eat_one_token-requires-in-126
 eat_one_token-requires-in-126 c = seen-in _ _ _ c.requires.0
-
-pub eat_lit_or_id-requires : goal.eat_lit_or_id-requires
-eat_lit_or_id-requires c = (c.requires.0, quote-in _ c.in-39.is)
-
-pub eat_dot_or_frac-requires : goal.eat_dot_or_frac-requires
-eat_dot_or_frac-requires c = key-seen 46 _ _ c.requires.0 c.in-46.is
-
-pub eat_bracket-requires : goal.eat_bracket-requires
-eat_bracket-requires c = key-seen 91 _ _ c.requires.0 c.in-91.is
 
 pub eat_one_token-requires-in-93 : goal.eat_one_token-requires-in-93
 eat_one_token-requires-in-93 c = seen-in _ _ _ c.requires.0
 
-pub eat_at-requires : goal.eat_at-requires
-eat_at-requires c = key-seen 64 _ _ c.requires.0 c.in-64.is
-
-pub eat_numbered_var-requires : goal.eat_numbered_var-requires
-eat_numbered_var-requires c = key-seen 63 _ _ c.requires.0 c.in-63.is
-
 pub eat_named_var-requires : goal.eat_named_var-requires
 eat_named_var-requires c = moved_up _ _ _ c.eat.ensures
-
-pub eat_illegal-requires : goal.eat_illegal-requires
-eat_illegal-requires c = key-seen 35 _ _ c.requires.0 c.in-35.is
-
-pub eat_colon-requires : goal.eat_colon-requires
-eat_colon-requires c = key-seen 58 _ _ c.requires.0 c.in-58.is
 
 pub eat_number_or_name-requires : goal.eat_number_or_name-requires
 eat_number_or_name-requires c = byte-in (D or S or U) _ _ c.requires.0 (later _ c.requires.1 (search rules))

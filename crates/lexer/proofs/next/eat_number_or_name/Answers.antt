@@ -7,12 +7,6 @@ use Rattle.grammar.proofs.Seen.{or-other}
 use Rattle.lexer.proofs.NextLaws.{lift}
 use Rattle.lexer.proofs.next.eat_number_or_name.Goals as goal
 
-pub eat_number-requires : goal.eat_number-requires
-eat_number-requires c = sym c.sees.ensures ∙ c.if-sees.true
-
-pub eat_blob_or_id-requires : goal.eat_blob_or_id-requires
-eat_blob_or_id-requires c = sym c.sees-2.ensures ∙ c.if-sees-2.true
-
 pub returns-then-sees-2 : goal.returns-then-sees-2
 unfolding is_digit is_identifier_start
 returns-then-sees-2 c = lift S refl _ _ _ (sym c.sees-2.ensures ∙ c.if-sees-2.true) _ c.eat_blob_or_id.ensures

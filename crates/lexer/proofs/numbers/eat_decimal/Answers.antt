@@ -1,13 +1,10 @@
 -- `lexer::numbers::eat_decimal` meets its contract. Assumes nothing.
 use native.Mathlib.Omega.{arith}
 use mathlib.Core.Path.{◌∙◌, sym}
-use Rattle.lexer.proofs.CountLaws.{counted-few, counted-run, decimal-apart, decimal-digits}
+use Rattle.lexer.proofs.CountLaws.{counted-run, decimal-apart, decimal-digits}
 use Rattle.lexer.proofs.NumberLaws.{integer-lexed, stuck-lexed}
 use Rattle.lexer.proofs.IntegerLaws.{decimal-after, decimal-stuck, integer-dot, integer-e, integer-ends, integer-word-lexed}
 use Rattle.lexer.proofs.numbers.eat_decimal.Goals as goal
-
-pub eat_while_number_digit-requires : goal.eat_while_number_digit-requires
-eat_while_number_digit-requires c = counted-few decimal-apart c.requires.counted
 
 pub refused-requires : goal.refused-requires
 refused-requires c =
@@ -24,17 +21,11 @@ eat_dot_after_digits-requires c = record {
   counted = counted-run decimal-apart _ _ _ _ _ c.requires.reads.ordered c.requires.counted c.in-Ok.ensures;
 }
 
-pub returns-then-sees : goal.returns-then-sees
-returns-then-sees c = c.eat_dot_after_digits.ensures
-
 pub eat_expo-requires : goal.eat_expo-requires
 eat_expo-requires c = record {
   exponent = integer-e (decimal-after c.requires _ _ c.in-Ok.ensures) (sym c.sees-2.ensures ∙ c.if-sees-2.true);
   counted = counted-run decimal-apart _ _ _ _ _ c.requires.reads.ordered c.requires.counted c.in-Ok.ensures;
 }
-
-pub returns-then-sees-2 : goal.returns-then-sees-2
-returns-then-sees-2 c = c.eat_expo.ensures
 
 pub refused-requires-then-sees-3 : goal.refused-requires-then-sees-3
 refused-requires-then-sees-3 c = (decimal-after c.requires _ _ c.in-Ok.ensures).reads.ordered

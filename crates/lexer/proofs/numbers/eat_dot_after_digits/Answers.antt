@@ -10,17 +10,11 @@ eat_frac-requires c = record {
   counted = dot-counted c.requires.dot c.eat-rest.ensures c.requires.counted;
 }
 
-pub returns-then-sees : goal.returns-then-sees
-returns-then-sees c = c.eat_frac.ensures
-
 pub eat_expo-requires : goal.eat_expo-requires
 eat_expo-requires c = record {
   exponent = dot-e c.requires.dot c.eat-rest.ensures (sym c.sees-2.ensures ∙ c.if-sees-2.true);
   counted = dot-counted c.requires.dot c.eat-rest.ensures c.requires.counted;
 }
-
-pub returns-then-sees-2 : goal.returns-then-sees-2
-returns-then-sees-2 c = c.eat_expo.ensures
 
 pub number-requires : goal.number-requires
 number-requires c =

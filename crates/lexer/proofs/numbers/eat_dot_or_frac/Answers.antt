@@ -11,9 +11,6 @@ eat_frac-requires c = record {
   counted = rw c.begin.ensures (first_counted _ _ _ c.requires c.eat-rest.ensures);
 }
 
-pub returns-then-sees : goal.returns-then-sees
-returns-then-sees c = c.eat_frac.ensures
-
 pub token-requires : goal.token-requires
 token-requires c = moved_up _ _ _ c.eat-rest.ensures
 

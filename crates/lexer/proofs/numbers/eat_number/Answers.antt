@@ -12,6 +12,3 @@ returns-then-sees_hex c =
 
 pub eat_decimal-requires : goal.eat_decimal-requires
 eat_decimal-requires c = decimal-begins _ _ _ _ c.requires c.eat-rest.ensures (sym c.sees_hex.ensures ∙ c.if-sees_hex.false)
-
-pub returns : goal.returns
-returns c = c.eat_decimal.ensures

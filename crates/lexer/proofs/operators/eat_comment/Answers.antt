@@ -6,9 +6,6 @@ use Rattle.lexer.proofs.EatLaws.{found-past, missed-past, reached-on}
 use Rattle.lexer.proofs.OperatorLaws.{comment-closed, comment-ends, comment-lexed, comment-more, comment-star}
 use Rattle.lexer.proofs.operators.eat_comment.Goals as goal
 
-pub loop-end-init : goal.loop-end-init
-loop-end-init c = c.requires
-
 pub token-requires : goal.token-requires
 token-requires c =
     let missed = missed-past _ _ _ _ c.in-Err.ensures in

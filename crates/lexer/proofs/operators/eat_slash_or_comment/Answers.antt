@@ -11,9 +11,6 @@ eat_comment-requires c =
     let one = spelled-first 47 _ _ c.requires c.eat-slash.ensures in
     comment-opens (spelled-more one 42 (sym c.sees.ensures ∙ c.if-sees.true) c.eat.ensures)
 
-pub returns-then-sees : goal.returns-then-sees
-returns-then-sees c = c.eat_comment.ensures
-
 pub token-requires : goal.token-requires
 token-requires c = moved_up _ _ _ c.eat-slash.ensures
 

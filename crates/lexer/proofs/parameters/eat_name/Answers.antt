@@ -7,9 +7,6 @@ use Rattle.lexer.proofs.EatLaws.{pair-on}
 use Rattle.lexer.proofs.ParameterLaws.{name-more, name-while}
 use Rattle.lexer.proofs.parameters.eat_name.Goals as goal
 
-pub loop-start-init : goal.loop-start-init
-loop-start-init c = (c.requires, λ π reads. reads)
-
 pub eat_suffix-requires : goal.eat_suffix-requires
 eat_suffix-requires c =
     let ordered = c.loop-start.invariant.0 in

@@ -7,18 +7,9 @@ use Rattle.lexer.proofs.EatLaws.{pair-on}
 use Rattle.lexer.proofs.ParameterLaws.{name-reads, nameless-ends, nameless-lexed, nameless-more}
 use Rattle.lexer.proofs.parameters.eat_named_var.Goals as goal
 
-pub loop-start-init : goal.loop-start-init
-loop-start-init c = (c.requires, λ π reads. reads)
-
-pub eat_name-requires : goal.eat_name-requires
-eat_name-requires c = c.loop-start.invariant.0
-
 pub returns-then-sees : goal.returns-then-sees
 returns-then-sees c =
     λ π reads. c.eat_name.ensures π (name-reads (c.loop-start.invariant.1 π reads) (sym c.sees.ensures ∙ c.if-sees.true))
-
-pub refused-requires : goal.refused-requires
-refused-requires c = c.loop-start.invariant.0
 
 pub returns-then-not-sees_pair : goal.returns-then-not-sees_pair
 returns-then-not-sees_pair c =

@@ -5,9 +5,6 @@ use Rattle.grammar.proofs.Seen.{moved-over, moved_up}
 use Rattle.lexer.proofs.ParameterLaws.{name-ends, suffix-closed, suffix-open, unclosed-lexed, variable-lexed}
 use Rattle.lexer.proofs.parameters.eat_suffix.Goals as goal
 
-pub token-requires : goal.token-requires
-token-requires c = c.requires
-
 pub returns-then-not-sees : goal.returns-then-not-sees
 returns-then-not-sees c = λ π named. variable-lexed _ (name-ends named (sym c.sees.ensures ∙ c.if-not-sees.true)) c.token.ensures
 

@@ -1,20 +1,12 @@
 -- `lexer::digits::Tally::eat_groups` meets its contract. Assumes nothing.
 use native.Mathlib.Omega.{arith}
-use mathlib.Core.Path.{◌∙◌, refl, sym}
+use mathlib.Core.Path.{◌∙◌, sym}
 use Rattle.grammar.proofs.Seen.{moved-one, over-on, seen-in}
 use Rattle.lexer.proofs.GroupLaws.{group-bad, group-more, group-read}
 use Rattle.lexer.proofs.digits.Tally.eat_groups.Goals as goal
 
-pub loop-set-init : goal.loop-set-init
-loop-set-init g c = (refl, c.requires)
-
 pub overflow_sub-digits : goal.overflow_sub-digits
 overflow_sub-digits g c = over-on _ _ _ _ c.eat_while-end.ensures
-
-pub overflow_add-digits : goal.overflow_add-digits
-overflow_add-digits g c =
-    let end = c.eat_while-end in
-    omega (arith, c.loop-set.invariant.1, over-on _ _ _ _ end.ensures, end.type_inv)
 
 pub returns-then-not-sees : goal.returns-then-not-sees
 returns-then-not-sees g c =
