@@ -1,6 +1,6 @@
 // The cursor: a place in a text, by value. Each method takes the text beside it; what moves hands the moved cursor back, so that going
-// back is to use the old one.
-ghost use Rattle.std.specs.Prelude.{◌≡◌, drop};
+// back is to use the old one. Text and cursor stay two parameters, since one text has many cursors at once: start, dot, end.
+ghost use Rattle.std.specs.Prelude.{◌≡◌, ◌≤◌, drop};
 ghost use Rattle.grammar.specs.Runs.{sees, sees_pair, moved, optional, over};
 ghost use Rattle.grammar.specs.Answers.{is_hex};
 ghost use Rattle.lexer.specs.Eaten.{head, past};
@@ -21,7 +21,8 @@ impl Cursor {
 
     // Over a byte, if there is one.
     pub(crate) fn eat(self, text: &[u8]) -> Cursor
-        ensures { result.at ≡ moved self.at text.now }
+        ensures place { result.at ≡ moved self.at text.now }
+        ensures onward { self.at ≤ result.at }
     {
         let at = self.at;
         if at < text.len() {
@@ -55,7 +56,8 @@ impl Cursor {
 
     // Over a byte of the set, if one is there.
     pub(crate) fn eat_if<K: ByteSet>(self, text: &[u8], set: K) -> Cursor
-        ensures { result.at ≡ optional (K.set set) self.at text.now }
+        ensures place { result.at ≡ optional (K.set set) self.at text.now }
+        ensures onward { self.at ≤ result.at }
     {
         if self.sees(text, set) {
             self.eat(text)
@@ -66,7 +68,8 @@ impl Cursor {
 
     // Over bytes of the set, to the first that is none, or to the end.
     pub(crate) fn eat_while<K: ByteSet>(self, text: &[u8], set: K) -> Cursor
-        ensures { result.at ≡ over (K.set set) self.at text.now }
+        ensures place { result.at ≡ over (K.set set) self.at text.now }
+        ensures onward { self.at ≤ result.at }
     {
         let Some(rest) = text.get(self.at..) else {
             return self;

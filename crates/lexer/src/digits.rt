@@ -20,6 +20,8 @@ pub(crate) struct Span {
     pub(crate) to: Cursor,
 }
 
+// The bound on the counts stands in the three contracts and not in the type: the definitions of specs/ count on in tallies that nothing
+// bounds.
 impl Tally {
     // Nothing is counted yet.
     pub(crate) fn begin(cursor: Cursor) -> Tally

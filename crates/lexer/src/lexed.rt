@@ -23,6 +23,7 @@ pub enum Refusal {
     OffsetPastEnd,
 }
 
+// `kind`: as the header for C numbers it.
 // `digits`, `underscores`: how many of them a number has, MOST where they are more; any other token has 0.
 // `next`: behind a token; at a refused lexeme's start, where the same refusal comes again, but behind it after class U; past the end as
 // given. An enum of its own: each of the three outcomes leads on to an offset, the end too, so that none is an error or nothing.

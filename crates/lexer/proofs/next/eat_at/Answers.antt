@@ -1,14 +1,10 @@
 -- `lexer::next::eat_at` meets its contract. Assumes nothing.
 use Rattle.grammar.specs.declared.profile.Profile.TheVariants.{Sqlite}
-use Rattle.grammar.proofs.Seen.{moved_up}
 use Rattle.grammar.proofs.Reading.{spelled-first}
 use Rattle.lexer.proofs.NextLaws.{under}
 use Rattle.lexer.proofs.ParameterLaws.{sqlite-at}
 use Rattle.lexer.proofs.next.eat_at.Goals as goal
 
-pub eat_named_var-requires : goal.eat_named_var-requires
-eat_named_var-requires c = moved_up _ _ _ c.eat.ensures
-
 pub returns-in-Sqlite : goal.returns-in-Sqlite
 returns-in-Sqlite c =
-    under c.in-Sqlite.is _ _ _ (c.eat_named_var.ensures Sqlite (sqlite-at (spelled-first 64 _ _ c.requires c.eat.ensures)))
+    under c.in-Sqlite.is _ _ _ (c.eat_named_var.ensures Sqlite (sqlite-at (spelled-first 64 _ _ c.requires c.eat.ensures.place)))

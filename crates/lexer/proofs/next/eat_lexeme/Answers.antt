@@ -4,7 +4,7 @@ use Rattle.words.specs.Bytes.{is_digit}
 use Rattle.grammar.specs.Classes.{U, operators}
 use Rattle.grammar.specs.Form.{D, S, one_of, ◌or◌}
 use Rattle.grammar.proofs.Reading.{spelled-first}
-use Rattle.grammar.proofs.Seen.{moved_up, seen-in}
+use Rattle.grammar.proofs.Seen.{seen-in}
 use Rattle.lexer.proofs.NextLaws.{byte-in, key-lexed, key-lift, key-seen, key-two-lexed, later, lift, quote-in}
 use Rattle.lexer.proofs.OperatorLaws.{follow, is_operator}
 use Rattle.lexer.proofs.ParameterLaws.{dollar-reads}
@@ -43,9 +43,6 @@ eat_one_token-requires-in-126 c = seen-in _ _ _ c.requires.0
 
 pub eat_one_token-requires-in-93 : goal.eat_one_token-requires-in-93
 eat_one_token-requires-in-93 c = seen-in _ _ _ c.requires.0
-
-pub eat_named_var-requires : goal.eat_named_var-requires
-eat_named_var-requires c = moved_up _ _ _ c.eat.ensures
 
 pub eat_number_or_name-requires : goal.eat_number_or_name-requires
 eat_number_or_name-requires c = byte-in (D or S or U) _ _ c.requires.0 (later _ c.requires.1 (search rules))
@@ -127,7 +124,7 @@ returns-in-63 c = key-lift 63 _ _ _ _ c.requires.0 c.in-63.is refl _ c.eat_numbe
 pub returns-in-36 : goal.returns-in-36
 returns-in-36 c =
     let seen = key-seen 36 _ _ c.requires.0 c.in-36.is in
-    c.eat_named_var.ensures _ (dollar-reads _ (spelled-first 36 _ _ seen c.eat.ensures))
+    c.eat_named_var.ensures _ (dollar-reads _ (spelled-first 36 _ _ seen c.eat.ensures.place))
 
 pub returns-in-35 : goal.returns-in-35
 unfolding is_digit

@@ -1,19 +1,15 @@
 -- `lexer::numbers::eat_dot_or_frac` meets its contract. Assumes nothing.
 use mathlib.Core.Path.{◌∙◌, sym}
-use Rattle.grammar.proofs.Seen.{moved_up}
 use Rattle.grammar.proofs.Reading.{spelled-first}
 use Rattle.lexer.proofs.FractionLaws.{dot-lexed, first_counted, first-fraction}
 use Rattle.lexer.proofs.numbers.eat_dot_or_frac.Goals as goal
 
 pub eat_frac-requires : goal.eat_frac-requires
 eat_frac-requires c = record {
-  fraction = rw c.begin.ensures (first-fraction _ _ _ _ c.requires c.eat-rest.ensures (sym c.sees.ensures ∙ c.if-sees.true));
-  counted = rw c.begin.ensures (first_counted _ _ _ c.requires c.eat-rest.ensures);
+  fraction = rw c.begin.ensures (first-fraction _ _ _ _ c.requires c.eat-rest.ensures.place (sym c.sees.ensures ∙ c.if-sees.true));
+  counted = rw c.begin.ensures (first_counted _ _ _ c.requires c.eat-rest.ensures.place);
 }
-
-pub token-requires : goal.token-requires
-token-requires c = moved_up _ _ _ c.eat-rest.ensures
 
 pub returns-else-sees : goal.returns-else-sees
 returns-else-sees c =
-    dot-lexed _ (spelled-first 46 _ _ c.requires c.eat-rest.ensures) (sym c.sees.ensures ∙ c.if-sees.false) _ c.token.ensures
+    dot-lexed _ (spelled-first 46 _ _ c.requires c.eat-rest.ensures.place) (sym c.sees.ensures ∙ c.if-sees.false) _ c.token.ensures

@@ -2,23 +2,16 @@
 use mathlib.Core.Path.{◌∙◌, refl, sym}
 use Rattle.grammar.specs.declared.profile.Profile.TheVariants.{Turso}
 use Rattle.grammar.specs.Classes.{operators}
-use Rattle.grammar.proofs.Seen.{moved_twice, moved_up}
 use Rattle.grammar.proofs.Reading.{spelled-first}
 use Rattle.lexer.proofs.OperatorLaws.{follow, is_operator, two-lexed}
 use Rattle.lexer.proofs.ParameterLaws.{at_reads}
 use Rattle.lexer.proofs.operators.eat_array_contains_or_var.Goals as goal
 
-pub token-requires : goal.token-requires
-token-requires c = moved_twice _ _ _ _ c.eat-sign.ensures c.eat.ensures
-
 pub returns-then-sees : goal.returns-then-sees
 unfolding follow is_operator operators
 returns-then-sees c =
-    two-lexed 64 _ _ c.requires c.eat-sign.ensures 62 (sym c.sees.ensures ∙ c.if-sees.true) c.eat.ensures refl refl refl _ c.token.ensures
-
-pub eat_named_var-requires : goal.eat_named_var-requires
-eat_named_var-requires c = moved_up _ _ _ c.eat-sign.ensures
+    two-lexed 64 _ _ c.requires c.eat-sign.ensures.place 62 (sym c.sees.ensures ∙ c.if-sees.true) c.eat.ensures.place refl refl refl _ c.token.ensures
 
 pub returns : goal.returns
 returns c =
-    c.eat_named_var.ensures Turso (at_reads (spelled-first 64 _ _ c.requires c.eat-sign.ensures) (sym c.sees.ensures ∙ c.if-sees.false))
+    c.eat_named_var.ensures Turso (at_reads (spelled-first 64 _ _ c.requires c.eat-sign.ensures.place) (sym c.sees.ensures ∙ c.if-sees.false))

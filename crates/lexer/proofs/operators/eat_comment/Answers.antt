@@ -19,12 +19,12 @@ returns-in-Err c =
 pub token-requires-then-sees : goal.token-requires-then-sees
 token-requires-then-sees c =
     let starred = comment-star c.loop-end.invariant (found-past _ _ _ _ c.in-Ok.ensures) in
-    (comment-closed starred (sym c.sees.ensures ∙ c.if-sees.true) c.eat.ensures).ordered
+    (comment-closed starred (sym c.sees.ensures ∙ c.if-sees.true) c.eat.ensures.place).ordered
 
 pub returns-then-sees : goal.returns-then-sees
 returns-then-sees c =
     let starred = comment-star c.loop-end.invariant (found-past _ _ _ _ c.in-Ok.ensures) in
-    comment-lexed (inl (comment-closed starred (sym c.sees.ensures ∙ c.if-sees.true) c.eat.ensures)) _ c.token-then-sees.ensures
+    comment-lexed (inl (comment-closed starred (sym c.sees.ensures ∙ c.if-sees.true) c.eat.ensures.place)) _ c.token-then-sees.ensures
 
 pub loop-end-smaller : goal.loop-end-smaller
 loop-end-smaller c =

@@ -2,29 +2,22 @@
 use mathlib.Core.Bool.{true≢false}
 use mathlib.Core.Path.{◌∙◌, sym}
 use Rattle.grammar.specs.declared.profile.Profile.TheVariants.{Turso}
-use Rattle.grammar.proofs.Seen.{moved_up}
 use Rattle.grammar.proofs.Reading.{spelled-first}
 use Rattle.lexer.proofs.ParameterLaws.{colon-lexed, colon-pair, colon-start}
 use Rattle.lexer.proofs.parameters.eat_colon_or_var.Goals.{then-sees, else-sees}
 use Rattle.lexer.proofs.parameters.eat_colon_or_var.Goals as goal
 
-pub eat_named_var-requires : goal.eat_named_var-requires
-eat_named_var-requires c = moved_up _ _ _ c.eat-colon.ensures
-
 pub returns-then-sees_pair : goal.returns-then-sees_pair
 returns-then-sees_pair c =
-    let one = spelled-first 58 _ _ c.requires c.eat-colon.ensures in
+    let one = spelled-first 58 _ _ c.requires c.eat-colon.ensures.place in
     elim c.if-sees.branch [
       | then-sees w ↦ c.eat_named_var.ensures Turso (colon-start one (sym c.sees.ensures ∙ w.if-sees.true))
       | else-sees w ↦ c.eat_named_var.ensures Turso (colon-pair one (sym w.sees_pair.ensures ∙ sym w.value-is ∙ c.if-sees_pair.true))
     ]
 
-pub token-requires : goal.token-requires
-token-requires c = moved_up _ _ _ c.eat-colon.ensures
-
 pub returns-else-sees_pair : goal.returns-else-sees_pair
 returns-else-sees_pair c =
-    let one = spelled-first 58 _ _ c.requires c.eat-colon.ensures in
+    let one = spelled-first 58 _ _ c.requires c.eat-colon.ensures.place in
     elim c.if-sees.branch [
       | then-sees w ↦ absurd (true≢false (sym w.if-sees.true ∙ sym w.value-is ∙ c.if-sees_pair.false))
       | else-sees w ↦

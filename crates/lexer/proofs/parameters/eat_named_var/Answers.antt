@@ -2,7 +2,6 @@
 -- text read like `$` before the loop, it does so up to here. Assumes nothing.
 use native.Mathlib.Omega.{arith}
 use mathlib.Core.Path.{◌∙◌, sym}
-use Rattle.grammar.proofs.Seen.{moved_twice}
 use Rattle.lexer.proofs.EatLaws.{pair-on}
 use Rattle.lexer.proofs.ParameterLaws.{name-reads, nameless-ends, nameless-lexed, nameless-more}
 use Rattle.lexer.proofs.parameters.eat_named_var.Goals as goal
@@ -19,13 +18,13 @@ returns-then-not-sees_pair c =
 
 pub loop-start-smaller : goal.loop-start-smaller
 loop-start-smaller c =
-    let on = pair-on _ _ (sym c.sees_pair.ensures ∙ c.if-not-sees_pair.false) c.eat.ensures c.eat-name.ensures in
+    let on = pair-on _ _ (sym c.sees_pair.ensures ∙ c.if-not-sees_pair.false) c.eat.ensures.place c.eat-name.ensures.place in
     omega arith
 
 pub loop-start-preserved : goal.loop-start-preserved
 loop-start-preserved c =
     let pair = sym c.sees_pair.ensures ∙ c.if-not-sees_pair.false in
     let ordered = c.loop-start.invariant.0 in (
-      omega (arith, moved_twice _ _ _ _ c.eat.ensures c.eat-name.ensures),
-      λ π reads. nameless-more (c.loop-start.invariant.1 π reads) pair c.eat.ensures c.eat-name.ensures,
+      omega (arith, c.eat.ensures.onward, c.eat-name.ensures.onward),
+      λ π reads. nameless-more (c.loop-start.invariant.1 π reads) pair c.eat.ensures.place c.eat-name.ensures.place,
     )

@@ -2,13 +2,12 @@
 -- Assumes nothing.
 use native.Mathlib.Omega.{arith}
 use mathlib.Core.Path.{◌∙◌, sym}
-use Rattle.grammar.proofs.Seen.{moved_up}
 use Rattle.lexer.proofs.EatLaws.{found-past, missed-past, reached-on}
 use Rattle.lexer.proofs.QuotedLaws.{open-lexed, quote-again, quote-closed, quote-found, quote-open, quote-opens, quoted-lexed}
 use Rattle.lexer.proofs.quoted.eat_lit_or_id.Goals as goal
 
 pub loop-end-init : goal.loop-end-init
-loop-end-init c = (quote-opens _ c.requires.1 c.requires.0 c.eat-body.ensures, c.requires.1)
+loop-end-init c = (quote-opens _ c.requires.1 c.requires.0 c.eat-body.ensures.place, c.requires.1)
 
 pub refused-requires : goal.refused-requires
 refused-requires c =
@@ -34,9 +33,9 @@ returns-then-not-sees c =
 pub loop-end-smaller : goal.loop-end-smaller
 loop-end-smaller c =
     let on = reached-on _ _ _ _ (found-past _ _ _ _ c.in-Ok.ensures) in
-    omega (arith, moved_up _ _ _ c.eat-body-in-Ok.ensures)
+    omega (arith, c.eat-body-in-Ok.ensures.onward)
 
 pub loop-end-preserved : goal.loop-end-preserved
 loop-end-preserved c =
     let reads = quote-found _ c.loop-end.invariant.1 c.loop-end.invariant.0 (found-past _ _ _ _ c.in-Ok.ensures) in
-    (quote-again _ c.loop-end.invariant.1 reads (sym c.sees.ensures ∙ c.if-not-sees.false) c.eat-body-in-Ok.ensures, c.loop-end.invariant.1)
+    (quote-again _ c.loop-end.invariant.1 reads (sym c.sees.ensures ∙ c.if-not-sees.false) c.eat-body-in-Ok.ensures.place, c.loop-end.invariant.1)

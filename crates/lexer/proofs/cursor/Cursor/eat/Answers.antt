@@ -2,8 +2,8 @@
 use Rattle.lexer.proofs.EatLaws.{moved-not, moved_on}
 use Rattle.lexer.proofs.cursor.Cursor.eat.Goals as goal
 
-pub returns-then-at-text : goal.returns-then-at-text
-returns-then-at-text c = moved_on _ _ c.if-at-text.true
+pub returns-then-at-text-clause-place : goal.returns-then-at-text-clause-place
+returns-then-at-text-clause-place c = moved_on _ _ c.if-at-text.true
 
-pub returns-else-at-text : goal.returns-else-at-text
-returns-else-at-text c = moved-not _ _ c.if-at-text.false
+pub returns-else-at-text-clause-place : goal.returns-else-at-text-clause-place
+returns-else-at-text-clause-place c = moved-not _ _ c.if-at-text.false

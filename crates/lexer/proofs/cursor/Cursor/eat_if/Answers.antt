@@ -4,8 +4,8 @@ use Rattle.grammar.proofs.Seen.{optional-none}
 use Rattle.lexer.proofs.EatLaws.{optional-taken}
 use Rattle.lexer.proofs.cursor.Cursor.eat_if.Goals as goal
 
-pub returns-then-sees : goal.returns-then-sees
-returns-then-sees g c = optional-taken _ _ _ _ (sym c.sees.ensures ∙ c.if-sees.true) c.eat.ensures
+pub returns-then-sees-clause-place : goal.returns-then-sees-clause-place
+returns-then-sees-clause-place g c = optional-taken _ _ _ _ (sym c.sees.ensures ∙ c.if-sees.true) c.eat.ensures.place
 
-pub returns-else-sees : goal.returns-else-sees
-returns-else-sees g c = sym (optional-none _ _ _ (sym c.sees.ensures ∙ c.if-sees.false))
+pub returns-else-sees-clause-place : goal.returns-else-sees-clause-place
+returns-else-sees-clause-place g c = sym (optional-none _ _ _ (sym c.sees.ensures ∙ c.if-sees.false))
