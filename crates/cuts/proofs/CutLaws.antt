@@ -3,10 +3,7 @@ use Prim.Native.Nat.{ℕ, ◌-◌, ◌≤◌}
 use mathlib.Core.Path.{◌≡◌, refl, sym, ◌∙◌, ap, subst}
 use mathlib.Core.Bool.{Bool, true, false, ◌||◌, true≢false}
 use mathlib.Core.List.{List, [], ◌∷◌, ◌++◌, append_assoc, append-nil}
-use lib.Dec.{T, eqb, eqb→eq}
 use lib.ListN.{length}
-use Rattle.keywords.specs.Kinds.{kind}
-use Rattle.keywords.proofs.Logic.{split}
 use Rattle.triggers.specs.declared.seen.Seen.{Seen}
 use Rattle.triggers.specs.declared.seen.Seen.TheVariants.{Nothing}
 use Rattle.triggers.specs.Triggers.{counted}
@@ -25,12 +22,6 @@ use Rattle.walks.proofs.WalkLaws.{legal, token-passes, end-no-token, refusal-no-
 use Rattle.cuts.specs.declared.Statement.{Statement}
 use Rattle.cuts.specs.declared.Statement.TheVariants.{Cut, Refused}
 use Rattle.cuts.specs.Cuts.{CutAnswer, kinds_of, Within, some_not_none, cut_answer, Cutting, values_of, Cuts}
-
-pub not_none_lem : (k : ℕ) (b : Bool) → (k ≡ kind "TK_NONE" → ⊥) → true ≡ not_none k || b
-not_none_lem k b other =
-    split (eqb k (kind "TK_NONE"))
-    (λ e. absurd (other (eqb→eq k (kind "TK_NONE") (subst T (sym e) tt))))
-    (λ e. rw e refl)
 
 has-one-more : (l : List Legal) (t : Legal) → some_not_none (l ++ (t ∷ [])) ≡ not_none t.kind || some_not_none l
 unfolding some_not_none
