@@ -22,7 +22,7 @@ pub(crate) fn record_of(kind: u32, start: usize, length: usize, line: Line) -> R
 }
 
 // The line behind a token that stands on this one. Its bytes are gone through only where there can be a 0A among them; a token of one byte, as
-// most are, shows it at a glance.
+// most are, shows it at a glance. There are two calls, since with one both branches are computed at each token.
 pub(crate) fn line_behind_token(
     text: &[u8],
     kind: u32,
@@ -46,7 +46,7 @@ pub(crate) fn line_behind_token(
 }
 
 // True of a kind and a first byte with which no token has a 0A in it: blanks, comments and strings have a smaller kind than TK_ID, and
-// a quoted name begins with a double quote, a bracket or a backtick.
+// a quoted name begins with a double quote, a bracket or a backtick. As one condition it costs List 0.6 instructions a byte more.
 fn has_no_newline(kind: u32, first: u8) -> bool
     ensures { result ≡ has_no_newline kind first }
 {

@@ -47,8 +47,7 @@ pub fn list(text: &[u8], cursor: Cursor, profile: Profile, numbers: &mut [u32]) 
     let stop = pass(text, cursor, profile, numbers, TK_NONE, u32::MAX);
     let records = stop.filled / WIDTH;
     let next = stop.next;
-    let there = stop.there;
-    match there {
+    match stop.there {
         There::Lexeme => Listed::ListFull { records, next },
         There::End => Listed::End { records, next },
         There::Refused { why, start, length } => Listed::Refused {

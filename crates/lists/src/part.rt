@@ -59,22 +59,17 @@ pub fn list_part(
     let records = stop.filled / WIDTH;
     let spent = allowance - stop.left;
     let next = stop.next;
-    let there = stop.there;
-    match there {
-        There::Lexeme => {
-            if stop.left == 0 {
-                return Part::Paused {
-                    records,
-                    spent,
-                    next,
-                };
-            }
-            Part::ListFull {
-                records,
-                spent,
-                next,
-            }
-        }
+    match stop.there {
+        There::Lexeme if stop.left == 0 => Part::Paused {
+            records,
+            spent,
+            next,
+        },
+        There::Lexeme => Part::ListFull {
+            records,
+            spent,
+            next,
+        },
         There::End => Part::End {
             records,
             spent,

@@ -12,7 +12,8 @@ use lexer::next::next;
 use places::{FIRST, line_behind};
 use records::{WIDTH, put};
 
-// What stands where the walk stops: a lexeme that it does not pass, the end, or what `next` refuses.
+// What stands where the walk stops: a lexeme that it does not pass, the end, or what `next` refuses. No `Result`: a lexeme that is not
+// passed is no error of the walk, and `list` and `list_part` each make an answer of their own of it.
 #[derive(Clone, Copy)]
 pub(crate) enum There {
     Lexeme,
@@ -33,7 +34,8 @@ pub(crate) struct Stop {
     pub(crate) there: There,
 }
 
-// Passes a lexeme for each of the allowance, and writes a record of those whose kind is `least` or a greater one.
+// Passes a lexeme for each of the allowance, and writes a record of those whose kind is `least` or a greater one: a flag for blanks was
+// measured, and is slower. Text, cursor and profile stay apart, as the calls above are given them and as `next` takes them.
 pub(crate) fn pass(
     text: &[u8],
     cursor: Cursor,
@@ -53,11 +55,9 @@ pub(crate) fn pass(
         match next(text, at, profile) {
             Lexed::Token {
                 kind,
-                start: _,
                 length,
                 next,
-                digits: _,
-                underscores: _,
+                ..
             } => {
                 if left == 0 {
                     return stopped(filled, left, at, There::Lexeme);
@@ -73,9 +73,7 @@ pub(crate) fn pass(
                 line = line_behind_token(text, kind, at.at, length, line);
                 at = next;
             }
-            Lexed::End { next } => {
-                return stopped(filled, left, next, There::End);
-            }
+            Lexed::End { next } => return stopped(filled, left, next, There::End),
             Lexed::Refused {
                 why,
                 start,

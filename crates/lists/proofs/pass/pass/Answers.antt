@@ -2,11 +2,10 @@
 -- one of the allowance, and the line is that of the place reached. Assumes nothing.
 use native.Mathlib.Omega.{arith}
 use mathlib.Core.Path.{refl, ◌∙◌, ap}
-use lib.ListN.{length}
 use Rattle.records.specs.Records.{with_record}
 use Rattle.lexer.proofs.Moves.{moves}
 use Rattle.walks.proofs.WalkLaws.{token-told}
-use Rattle.lists.proofs.PassLaws.{begins, same-long, asked, few, record-on, blank-on, full-same, full-passing}
+use Rattle.lists.proofs.PassLaws.{begins, asked, record-on, blank-on, full-passing}
 use Rattle.lists.proofs.PassLaws.{spent-passing, end-passing, refusal-passing}
 use Rattle.lists.proofs.pass.pass.Goals as goal
 use Rattle.lists.proofs.pass.pass.Goals.{then-least-kind+else-not-put, else-least-kind}
@@ -15,9 +14,6 @@ pub loop-kind-init : goal.loop-kind-init
 loop-kind-init c =
     let short = c.requires in
     (begins _ _ _ _ _ _ short c.line_behind-line.ensures, short)
-
-pub shape_of-numbers-then-left-eq0 : goal.shape_of-numbers-then-left-eq0
-shape_of-numbers-then-left-eq0 c = same-long c.loop-kind.invariant.0
 
 pub returns-then-left-eq0 : goal.returns-then-left-eq0
 returns-then-left-eq0 c =
@@ -30,18 +26,6 @@ record_of-requires c =
     let loop = c.loop-kind in
     asked loop.invariant.0 _ _ _ _ _ _ c.in-Token.ensures loop.invariant.1
 
-pub shape_of-numbers-then-not-put : goal.shape_of-numbers-then-not-put
-shape_of-numbers-then-not-put c =
-    let if3 = c.if-not-put in
-    let put = c.put in
-    let record_of = c.record_of in
-    let if2 = c.if-least-kind in
-    let loop = c.loop-kind in
-    let token = c.in-Token.ensures in
-    let written = put.ensures.1 ∙ ap (with_record _ _) record_of.ensures in
-    let same = full-same loop.invariant.0 _ _ _ _ _ _ token if2.true _ _ put.ensures.0 written if3.true in
-    ap length same ∙ same-long loop.invariant.0
-
 pub returns-then-not-put : goal.returns-then-not-put
 returns-then-not-put c =
     let if3 = c.if-not-put in
@@ -52,15 +36,6 @@ returns-then-not-put c =
     let token = c.in-Token.ensures in
     let written = put.ensures.1 ∙ ap (with_record _ _) record_of.ensures in
     full-passing loop.invariant.0 _ _ _ _ _ _ token if2.true _ _ put.ensures.0 written if3.true _ refl _ c.stopped-then-not-put.ensures
-
-pub overflow_add-filled : goal.overflow_add-filled
-overflow_add-filled c =
-    let loop = c.loop-kind in
-    let few = few loop.invariant.0 _ _ _ _ _ _ c.in-Token.ensures loop.invariant.1 in
-    omega (arith, few)
-
-pub overflow_sub-left : goal.overflow_sub-left
-overflow_sub-left c = omega (arith, c.if-left-eq0.false)
 
 pub line_behind_token-line-requires : goal.line_behind_token-line-requires
 line_behind_token-line-requires c =
@@ -88,16 +63,10 @@ loop-kind-preserved c =
       loop.invariant.1,
     )
 
-pub shape_of-numbers-in-End : goal.shape_of-numbers-in-End
-shape_of-numbers-in-End c = same-long c.loop-kind.invariant.0
-
 pub returns-in-End : goal.returns-in-End
 returns-in-End c =
     let loop = c.loop-kind in
     end-passing loop.invariant.0 _ c.in-End.ensures _ c.stopped-in-End.ensures
-
-pub shape_of-numbers-in-Refused : goal.shape_of-numbers-in-Refused
-shape_of-numbers-in-Refused c = same-long c.loop-kind.invariant.0
 
 pub returns-in-Refused : goal.returns-in-Refused
 returns-in-Refused c =
