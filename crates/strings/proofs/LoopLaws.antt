@@ -1,8 +1,8 @@
 -- What the loops keep: bytes that are counted, and bytes that are put into a buffer. Assumes nothing.
-use Prim.Native.Nat.{ℕ, ◌+◌, ◌-◌, ◌*◌, ◌≤◌, ◌<◌}
+use Prim.Native.Nat.{ℕ, ◌+◌, ◌≤◌, ◌<◌}
 use native.Mathlib.Omega.{arith}
-use mathlib.Core.Path.{◌≡◌, ap}
-use mathlib.Core.Bool.{false, cond}
+use mathlib.Core.Path.{◌≡◌, ◌∙◌, ap}
+use mathlib.Core.Bool.{Bool, true, false, cond}
 use mathlib.Core.List.{List, [], ◌∷◌, ◌++◌}
 use lib.Dec.{eqb}
 use lib.ListN.{length, get_or, drop, set}
@@ -10,59 +10,48 @@ use borrow.Author.Tests.{eq-eqb, ne_eqb}
 use Rattle.buffers.specs.Buffers.{before}
 use Rattle.buffers.proofs.FillLaws.{Filling, begins, counted, one_more, with-left, whole}
 use Rattle.strings.specs.Quotes.{undoubled, doubled, quoted}
-use Rattle.strings.proofs.QuoteLaws.{wide, wide_low, wide_high, undoubled-at, undoubled-end, doubled-at, doubled-wide, doubled-end}
+use Rattle.strings.proofs.QuoteLaws.{undoubled-step, undoubled-end, doubled-at, doubled-end}
 
--- a step over a byte, or two, leads on
-pub nearer : (q : ℕ) (body : List ℕ) (i k : ℕ) → i < length body → k ≡ wide (get_or body i 0) q → length body - (i + k) < length body - i
-nearer q body i k h e = omega (arith, wide_low (get_or body i 0) q)
-
--- bytes of a body with its doubled quotes made single: n are counted, i are behind
-pub record Counting (q : ℕ) (body : List ℕ) (n i : ℕ) : Type 0 where
-  pub upto : i ≤ length body + 1
+-- bytes of a body with its doubled quotes made single: n are counted, i are behind, and the next is left out or not
+pub record Counting (q : ℕ) (body : List ℕ) (n : ℕ) (out : Bool) (i : ℕ) : Type 0 where
   pub fewer : n ≤ i
-  pub rest : n + length (undoubled q false (drop i body)) ≡ length (undoubled q false body)
+  pub rest : n + length (undoubled q out (drop i body)) ≡ length (undoubled q false body)
 
-pub count-on : {q : ℕ} {body : List ℕ} {n i : ℕ} → Counting q body n i → i < length body → (k : ℕ) → k ≡ wide (get_or body i 0) q → Counting q body (n + 1) (i + k)
-count-on {q} {body} {n} {i} c h k e =
-    let low = wide_low (get_or body i 0) q in
-    let high = wide_high (get_or body i 0) q in
-    let more = ap length (undoubled-at q body i h) in
-    record { upto = omega arith; fewer = omega arith; rest = rw e (omega (arith, c.rest)) }
+module _ {q : ℕ} {body : List ℕ} {n i : ℕ} {out : Bool} (c : Counting q body n out i) where
+  pub count-past : out ≡ true → i < length body → Counting q body n false (i + 1)
+  count-past e h =
+      let w : undoubled q out (drop i body) ≡ undoubled q false (drop (i + 1) body) = undoubled-step q out body i h ∙ rw e in
+      let s = ap length w in
+      record { fewer = omega (arith, c.fewer); rest = omega (arith, c.rest) }
 
-pub all-counted : {q : ℕ} {body : List ℕ} {n i : ℕ} → Counting q body n i → length body ≤ i → n ≡ length (undoubled q false body)
-all-counted {q} {body} {n} {i} c h = omega (arith, c.rest, ap length (undoubled-end q body i h))
+  pub count-on : out ≡ false → i < length body → Counting q body (n + 1) (eqb (get_or body i 0) q) (i + 1)
+  count-on e h =
+      let w : undoubled q out (drop i body) ≡ get_or body i 0 ∷ undoubled q (eqb (get_or body i 0) q) (drop (i + 1) body) = undoubled-step q out body i h ∙ rw e in
+      let s = ap length w in
+      record { fewer = omega (arith, c.fewer); rest = omega (arith, c.rest) }
+
+  pub all-counted : length body ≤ i → n ≡ length (undoubled q false body)
+  all-counted h = omega (arith, c.rest, ap length (undoubled-end q out body i h))
 
 -- the same bytes: n are put into the buffer
-pub record Undoubling (q : ℕ) (body old out : List ℕ) (n i : ℕ) : Type 0 where
-  pub upto : i ≤ length body + 1
-  pub filling : Filling (undoubled q false body) old out n (undoubled q false (drop i body))
+pub record Undoubling (q : ℕ) (body old now : List ℕ) (n : ℕ) (out : Bool) (i : ℕ) : Type 0 where
+  pub filling : Filling (undoubled q false body) old now n (undoubled q out (drop i body))
 
-module _ {q : ℕ} {body old out : List ℕ} {n i : ℕ} (u : Undoubling q body old out n i) where
-  pub next-undoubled : i < length body → Filling (undoubled q false body) old out n (get_or body i 0 ∷ undoubled q false (drop (i + wide (get_or body i 0) q) body))
-  next-undoubled h = with-left u.filling _ (undoubled-at q body i h)
+module _ {q : ℕ} {body old now : List ℕ} {n i : ℕ} {out : Bool} (u : Undoubling q body old now n out i) where
+  pub undouble-past : out ≡ true → i < length body → Undoubling q body old now n false (i + 1)
+  undouble-past e h = record { filling = with-left u.filling _ (undoubled-step q out body i h ∙ rw e) }
 
-  pub undouble-on : i < length body → (k : ℕ) → k ≡ wide (get_or body i 0) q → Undoubling q body old (set out n (get_or body i 0)) (n + 1) (i + k)
-  undouble-on h k e = record { upto = omega (arith, wide_high (get_or body i 0) q); filling = rw e (one_more (next-undoubled h)) }
+  pub next-undoubled : out ≡ false → i < length body
+      → Filling (undoubled q false body) old now n (get_or body i 0 ∷ undoubled q (eqb (get_or body i 0) q) (drop (i + 1) body))
+  next-undoubled e h = with-left u.filling _ (undoubled-step q out body i h ∙ rw e)
 
-  pub all-undoubled : length body ≤ i → (n ≡ length (undoubled q false body)) × (out ≡ before (undoubled q false body) old)
+  pub undouble-on : out ≡ false → i < length body → Undoubling q body old (set now n (get_or body i 0)) (n + 1) (eqb (get_or body i 0) q) (i + 1)
+  undouble-on e h = record { filling = one_more (next-undoubled e h) }
+
+  pub all-undoubled : length body ≤ i → (n ≡ length (undoubled q false body)) × (now ≡ before (undoubled q false body) old)
   all-undoubled h =
-      let f = with-left u.filling [] (undoubled-end q body i h) in
-      (omega (arith, counted f), whole f)
-
--- bytes with each quote twice: n are counted, i are behind
-pub record Doubled (q : ℕ) (v : List ℕ) (n i : ℕ) : Type 0 where
-  pub upto : i ≤ length v
-  pub twice : n ≤ 2 * i
-  pub rest : n + length (doubled q (drop i v)) ≡ length (doubled q v)
-
-pub doubled-on : {q : ℕ} {v : List ℕ} {n i : ℕ} → Doubled q v n i → i < length v → (k : ℕ) → k ≡ wide (get_or v i 0) q → Doubled q v (n + k) (i + 1)
-doubled-on {q} {v} {n} {i} d h k e =
-    let high = wide_high (get_or v i 0) q in
-    let more = doubled-wide q v i h in
-    record { upto = omega arith; twice = omega arith; rest = rw e (omega (arith, d.rest)) }
-
-pub all-doubled : {q : ℕ} {v : List ℕ} {n i : ℕ} → Doubled q v n i → length v ≤ i → n ≡ length (doubled q v)
-all-doubled {q} {v} {n} {i} d h = omega (arith, d.rest, ap length (doubled-end q v i h))
+      let g = with-left u.filling [] (undoubled-end q out body i h) in
+      (omega (arith, counted g), whole g)
 
 -- the literal, from its opening quote: n of its bytes are put into the buffer
 pub quote-first : (q : ℕ) (v old : List ℕ) → length (quoted q v) ≤ length old → Filling (quoted q v) old old 0 (q ∷ doubled q v ++ q ∷ [])

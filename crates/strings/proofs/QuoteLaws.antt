@@ -1,15 +1,17 @@
 -- Quotes doubled, and made single again. Assumes nothing.
-use Prim.Native.Nat.{ℕ, suc, ◌+◌, ◌-◌, ◌*◌, ◌≤◌, ◌<◌}
+use Prim.Native.Nat.{ℕ, ◌+◌, ◌-◌, ◌*◌, ◌≤◌, ◌<◌}
 use native.Mathlib.Omega.{arith}
 use native.Mathlib.Numerals.{add-one}
-use mathlib.Core.Path.{◌≡◌, refl, ◌∙◌, ap}
+use mathlib.Core.Path.{◌≡◌, refl}
 use mathlib.Core.Bool.{Bool, true, false, cond, not}
 use mathlib.Core.List.{List, [], ◌∷◌, ◌++◌}
 use lib.Dec.{eqb}
 use lib.ListN.{length, get_or, drop, length-append, drop_of_length-le}
-use lib.Seq.{take_at, drop-cons, drop-drop}
+use lib.Seq.{take_at, drop-cons}
 use borrow.Author.Tests.{not-true}
 use Rattle.keywords.proofs.Logic.{split, and_left, and_right, every}
+use Rattle.std.specs.Prelude.{count_by, filter}
+use Rattle.std.proofs.lemmas.List.Sums.{length-filter}
 use Rattle.words.specs.Bytes.{is}
 use Rattle.strings.specs.Quotes.{inner, undoubled, unquoted, doubled, quoted}
 
@@ -57,43 +59,28 @@ unfolding unquoted
 unquoted-between q c v e = rw (e, inner-between q c v)
 
 -- a body's byte, and what is left behind it
-left_out : (q : ℕ) (w : List ℕ) → undoubled q true w ≡ undoubled q false (drop 1 w)
+pub undoubled-step : (q : ℕ) (out : Bool) (w : List ℕ) (i : ℕ) → i < length w
+    → undoubled q out (drop i w) ≡ cond out (undoubled q false (drop (i + 1) w)) (get_or w i 0 ∷ undoubled q (eqb (get_or w i 0) q) (drop (i + 1) w))
 unfolding undoubled
-left_out q [] = refl
-left_out q (b ∷ w) = refl
+undoubled-step q out w i h = rw (drop-cons w i 0 h, add-one i)
 
--- how many bytes stand for one
-abbrev pub wide : ℕ → ℕ → ℕ
-wide b q = cond (eqb b q) 2 1
-
-pub wide_low : (b q : ℕ) → 1 ≤ wide b q
-wide_low b q = split (eqb b q) (λ e. rw e (omega arith)) (λ e. rw e (omega arith))
-
-pub wide_high : (b q : ℕ) → wide b q ≤ 2
-wide_high b q = split (eqb b q) (λ e. rw e (omega arith)) (λ e. rw e (omega arith))
-
-pub undoubled-at : (q : ℕ) (w : List ℕ) (i : ℕ) → i < length w → undoubled q false (drop i w) ≡ get_or w i 0 ∷ undoubled q false (drop (i + wide (get_or w i 0) q) w)
+pub undoubled-end : (q : ℕ) (out : Bool) (w : List ℕ) (i : ℕ) → length w ≤ i → undoubled q out (drop i w) ≡ []
 unfolding undoubled
-undoubled-at q w i h =
-    let b = get_or w i 0 in
-    let two : suc i + 1 ≡ i + 2 = omega arith in
-    rw (drop-cons w i 0 h)
-    (ap (λ (l : List ℕ). b ∷ l)
-    (split (eqb b q)
-    (λ f. rw f (left_out q (drop (suc i) w) ∙ ap (undoubled q false) (drop-drop 1 (suc i) w ∙ ap (λ (m : ℕ). drop m w) two)))
-    (λ f. rw (f, add-one i))))
+undoubled-end q out w i h = rw (drop_of_length-le w {i = i} h)
 
-pub undoubled-end : (q : ℕ) (w : List ℕ) (i : ℕ) → length w ≤ i → undoubled q false (drop i w) ≡ []
-unfolding undoubled
-undoubled-end q w i h = rw (drop_of_length-le w {i = i} h)
+-- the literal's body is longer by its quotes
+doubled-filter : (q : ℕ) (v : List ℕ) → length (doubled q v) ≡ length v + length (filter (λ b. eqb b q) v)
+unfolding doubled
+doubled-filter q [] = refl
+doubled-filter q (b ∷ v) = split (eqb b q) (λ e. rw e (omega (arith, doubled-filter q v))) (λ e. rw e (omega (arith, doubled-filter q v)))
+
+pub doubled-count : (q : ℕ) (v : List ℕ) → length (doubled q v) ≡ length v + count_by (λ b. eqb b q) v
+doubled-count q v = omega (arith, doubled-filter q v, length-filter (λ b. eqb b q) v)
 
 pub doubled-at : (q : ℕ) (v : List ℕ) (i : ℕ) → i < length v
     → doubled q (drop i v) ≡ get_or v i 0 ∷ cond (eqb (get_or v i 0) q) (get_or v i 0 ∷ doubled q (drop (i + 1) v)) (doubled q (drop (i + 1) v))
 unfolding doubled
 doubled-at q v i h = rw (drop-cons v i 0 h, add-one i)
-
-pub doubled-wide : (q : ℕ) (v : List ℕ) (i : ℕ) → i < length v → length (doubled q (drop i v)) ≡ wide (get_or v i 0) q + length (doubled q (drop (i + 1) v))
-doubled-wide q v i h = ap length (doubled-at q v i h) ∙ split (eqb (get_or v i 0) q) (λ e. rw e (omega arith)) (λ e. rw e (omega arith))
 
 pub doubled-end : (q : ℕ) (v : List ℕ) (i : ℕ) → length v ≤ i → doubled q (drop i v) ≡ []
 unfolding doubled

@@ -2,5 +2,4 @@
 #![tactic(auto)]
 
 pub mod reading;
-mod width;
 pub mod writing;

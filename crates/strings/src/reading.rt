@@ -7,7 +7,6 @@ ghost use Rattle.strings.specs.Quotes.{undoubled, unquoted};
 ghost use Rattle.strings.specs.Calls.{ReadsString, ReadsName};
 ghost use Rattle.strings.specs.Closing.{closing_of, IsQuoted};
 
-use crate::width::width;
 use grammar::profile::Profile;
 use keywords::kinds::{TK_ID, TK_STRING};
 use spans::answers::ReadError;
@@ -84,10 +83,14 @@ fn undoubled_length(body: &[u8], quote: u8) -> usize
     ensures { result ≡ length (undoubled quote false body.now) }
 {
     let mut n = 0;
-    let mut i = 0;
-    while i < body.len() {
-        n += 1;
-        i += width(body[i], quote);
+    let mut skipped = false;
+    for &b in body {
+        if skipped {
+            skipped = false;
+        } else {
+            n += 1;
+            skipped = b == quote;
+        }
     }
     n
 }
@@ -97,12 +100,15 @@ fn put_undoubled(body: &[u8], quote: u8, buffer: &mut [u8]) -> usize
     ensures { (result ≡ length (undoubled quote false body.now)) × (buffer.new ≡ before (undoubled quote false body.now) buffer.old) }
 {
     let mut n = 0;
-    let mut i = 0;
-    while i < body.len() {
-        let b = body[i];
-        buffer[n] = b;
-        n += 1;
-        i += width(b, quote);
+    let mut out = false;
+    for &b in body {
+        if out {
+            out = false;
+        } else {
+            buffer[n] = b;
+            n += 1;
+            out = b == quote;
+        }
     }
     n
 }

@@ -1,10 +1,9 @@
 // The literal of bytes: each quote doubled, between two of them.
-ghost use Rattle.std.specs.Prelude.{◌≡◌, ◌≤◌, length};
+ghost use Rattle.std.specs.Prelude.{◌≡◌, ◌==◌, ◌≤◌, length, count_by};
 ghost use Rattle.buffers.specs.Buffers.{said_of, before, Fills};
 ghost use Rattle.strings.specs.Quotes.{doubled, quoted};
 ghost use Rattle.strings.specs.Calls.{WritesString, WritesName};
 
-use crate::width::width;
 use buffers::written::NoRoom;
 
 pub fn write_string(bytes: &[u8], buffer: &mut [u8]) -> Result<usize, NoRoom>
@@ -36,13 +35,13 @@ fn write_quoted(bytes: &[u8], quote: u8, buffer: &mut [u8]) -> Result<usize, NoR
 fn doubled_length(bytes: &[u8], quote: u8) -> usize
     ensures { result ≡ length (doubled quote bytes.now) }
 {
-    let mut n = 0;
-    let mut i = 0;
-    while i < bytes.len() {
-        n += width(bytes[i], quote);
-        i += 1;
-    }
-    n
+    bytes.len() + quotes_in(bytes, quote)
+}
+
+fn quotes_in(bytes: &[u8], quote: u8) -> usize
+    ensures { result ≡ count_by (λ b. b == quote) bytes.now }
+{
+    bytes.iter().filter(|b| **b == quote).count()
 }
 
 fn put_quoted(bytes: &[u8], quote: u8, buffer: &mut [u8])
@@ -51,10 +50,7 @@ fn put_quoted(bytes: &[u8], quote: u8, buffer: &mut [u8])
 {
     buffer[0] = quote;
     let mut n = 1;
-    let mut i = 0;
-    while i < bytes.len() {
-        let b = bytes[i];
-        i += 1;
+    for &b in bytes {
         buffer[n] = b;
         n += 1;
         if b == quote {

@@ -1,29 +1,21 @@
 -- `strings::reading::put_undoubled` meets its contract: what is put and what is left make the whole. Assumes nothing.
-use native.Mathlib.Omega.{arith}
-use Rattle.buffers.proofs.FillLaws.{begins, in_buffer, same-long}
-use Rattle.strings.proofs.LoopLaws.{next-undoubled, undouble-on, all-undoubled, nearer}
+use Rattle.buffers.proofs.FillLaws.{begins, in_buffer}
+use Rattle.strings.proofs.LoopLaws.{undouble-past, next-undoubled, undouble-on, all-undoubled}
 use Rattle.strings.proofs.reading.put_undoubled.Goals as goal
+use Rattle.strings.proofs.reading.put_undoubled.Goals.{then-out, else-out}
 
-pub loop-i-init : goal.loop-i-init
-loop-i-init c = record { upto = omega arith; filling = begins _ _ c.requires }
+pub loop-b-init : goal.loop-b-init
+loop-b-init c = record { filling = begins _ _ c.requires }
 
 pub bounds-buffer-n : goal.bounds-buffer-n
-bounds-buffer-n c = in_buffer (next-undoubled c.loop-i.invariant c.loop-i-test.true)
+bounds-buffer-n c = in_buffer (next-undoubled c.loop-b.invariant c.if-out.false c.loop-b-test.true)
 
-pub overflow_add-n : goal.overflow_add-n
-overflow_add-n c = omega (arith, in_buffer (next-undoubled c.loop-i.invariant c.loop-i-test.true), same-long c.loop-i.invariant.filling)
-
-pub loop-i-preserved : goal.loop-i-preserved
-loop-i-preserved c = undouble-on c.loop-i.invariant c.loop-i-test.true c.width-i.result c.width-i.ensures
-
-pub overflow_add-i : goal.overflow_add-i
-overflow_add-i c = omega (arith, (undouble-on c.loop-i.invariant c.loop-i-test.true c.width-i.result c.width-i.ensures).upto)
-
-pub loop-i-smaller : goal.loop-i-smaller
-loop-i-smaller c = nearer c.args.quote c.args.body.now _ _ c.loop-i-test.true c.width-i.ensures
-
-pub shape_of-buffer : goal.shape_of-buffer
-shape_of-buffer c = same-long c.loop-i.invariant.filling
+pub loop-b-preserved : goal.loop-b-preserved
+loop-b-preserved c =
+    elim c.if-out.branch [
+      | then-out w ↦ rw (w.buffer-is, w.n-is, w.out-is) (undouble-past c.loop-b.invariant w.if-out.true c.loop-b-test.true)
+      | else-out w ↦ rw (w.buffer-is, w.n-is, w.out-is) (undouble-on c.loop-b.invariant w.if-out.false c.loop-b-test.true)
+    ]
 
 pub returns : goal.returns
-returns c = all-undoubled c.loop-i.invariant c.loop-i-test.false
+returns c = all-undoubled c.loop-b.invariant c.loop-b-test.false
