@@ -43,11 +43,8 @@ fn put_pairs(digits: &[u8], buffer: &mut [u8])
     requires { length (pairs digits.now) ≤ length buffer.old }
     ensures { buffer.new ≡ before (pairs digits.now) buffer.old }
 {
-    let count = digits.len() / 2;
-    let mut n = 0;
-    while n < count {
+    for n in 0..digits.len() / 2 {
         buffer[n] = pair(digits[2 * n], digits[2 * n + 1]);
-        n += 1;
     }
 }
 

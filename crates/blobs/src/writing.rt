@@ -13,10 +13,7 @@ pub fn write_blob(bytes: &[u8], buffer: &mut [u8]) -> Result<usize, NoRoom>
 {
     let room = buffer.len();
     let n = bytes.len();
-    if room < 3 {
-        return Err(NoRoom);
-    }
-    if (room - 3) / 2 < n {
+    if room < 3 || (room - 3) / 2 < n {
         return Err(NoRoom);
     }
     put_blob(bytes, buffer);
@@ -30,10 +27,7 @@ fn put_blob(bytes: &[u8], buffer: &mut [u8])
     buffer[0] = b'x';
     buffer[1] = b'\'';
     let mut n = 2;
-    let mut i = 0;
-    while i < bytes.len() {
-        let b = bytes[i];
-        i += 1;
+    for &b in bytes {
         buffer[n] = digit(b / 16);
         n += 1;
         buffer[n] = digit(b % 16);

@@ -22,11 +22,6 @@ undoubled-short q out [] = omega arith
 undoubled-short q true (b ∷ w) = omega (arith, undoubled-short q false w)
 undoubled-short q false (b ∷ w) = omega (arith, undoubled-short q (eqb b q) w)
 
-pub doubled-long : (q : ℕ) (v : List ℕ) → length v ≤ length (doubled q v)
-unfolding doubled
-doubled-long q [] = omega arith
-doubled-long q (b ∷ v) = split (eqb b q) (λ e. rw e (omega (arith, doubled-long q v))) (λ e. rw e (omega (arith, doubled-long q v)))
-
 pub doubled-short : (q : ℕ) (v : List ℕ) → length (doubled q v) ≤ length v * 2
 unfolding doubled
 doubled-short q [] = omega arith

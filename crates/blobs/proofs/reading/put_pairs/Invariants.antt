@@ -1,10 +1,6 @@
 -- `blobs::reading::put_pairs` meets its contract: what is put and what is left make the whole. Assumes nothing.
-use Prim.Native.Nat.{◌-◌}
 use Rattle.blobs.proofs.LoopLaws.{Pairing}
 use Rattle.blobs.proofs.reading.put_pairs.Given as goal
 
 abbrev pub invariant-loop-n : goal.invariant-loop-n
 invariant-loop-n l = Pairing l.digits l.initial.buffer l.buffer l.n
-
-abbrev pub decreases-loop-n : goal.decreases-loop-n
-decreases-loop-n l = l.count - l.n

@@ -19,33 +19,33 @@ bounds-buffer-1 c =
     let two : 1 < length a.buffer.now = omega (arith, c.requires, blob-long a.bytes.now) in
     lt-length-set a.buffer.now 0 _ two
 
-pub loop-i-init : goal.loop-i-init
-loop-i-init c = record { upto = omega arith; filling = rebased (one_more (one_more (blob-first _ _ c.requires))) }
+pub loop-b-init : goal.loop-b-init
+loop-b-init c = record { upto = omega arith; filling = rebased (one_more (one_more (blob-first _ _ c.requires))) }
 
 -- a byte's two
 pub bounds-buffer-n : goal.bounds-buffer-n
-bounds-buffer-n c = in_buffer (next-high c.loop-i.invariant c.loop-i-test.true c.digit.result c.digit.ensures)
+bounds-buffer-n c = in_buffer (next-high c.loop-b.invariant c.loop-b-test.true c.digit.result c.digit.ensures)
 
 pub overflow_add-n : goal.overflow_add-n
-overflow_add-n c = omega (arith, in_buffer (next-high c.loop-i.invariant c.loop-i-test.true c.digit.result c.digit.ensures), same-long c.loop-i.invariant.filling, same-long (one_more (one_more (blob-first _ _ c.requires))))
+overflow_add-n c = omega (arith, in_buffer (next-high c.loop-b.invariant c.loop-b-test.true c.digit.result c.digit.ensures), same-long c.loop-b.invariant.filling, same-long (one_more (one_more (blob-first _ _ c.requires))))
 
-pub bounds-buffer-n-in-loop-i : goal.bounds-buffer-n-in-loop-i
-bounds-buffer-n-in-loop-i c = in_buffer (next_low c.loop-i.invariant c.loop-i-test.true c.digit.result c.digit.ensures c.digit-in-loop-i.result c.digit-in-loop-i.ensures)
+pub bounds-buffer-n-in-loop-b : goal.bounds-buffer-n-in-loop-b
+bounds-buffer-n-in-loop-b c = in_buffer (next_low c.loop-b.invariant c.loop-b-test.true c.digit.result c.digit.ensures c.digit-in-loop-b.result c.digit-in-loop-b.ensures)
 
-pub loop-i-preserved : goal.loop-i-preserved
-loop-i-preserved c = hex-on c.loop-i.invariant c.loop-i-test.true c.digit.result c.digit.ensures c.digit-in-loop-i.result c.digit-in-loop-i.ensures
+pub loop-b-preserved : goal.loop-b-preserved
+loop-b-preserved c = hex-on c.loop-b.invariant c.loop-b-test.true c.digit.result c.digit.ensures c.digit-in-loop-b.result c.digit-in-loop-b.ensures
 
-pub overflow_add-n-in-loop-i : goal.overflow_add-n-in-loop-i
-overflow_add-n-in-loop-i c =
-    let low = next_low c.loop-i.invariant c.loop-i-test.true c.digit.result c.digit.ensures c.digit-in-loop-i.result c.digit-in-loop-i.ensures in
+pub overflow_add-n-in-loop-b : goal.overflow_add-n-in-loop-b
+overflow_add-n-in-loop-b c =
+    let low = next_low c.loop-b.invariant c.loop-b-test.true c.digit.result c.digit.ensures c.digit-in-loop-b.result c.digit-in-loop-b.ensures in
     omega (arith, in_buffer low, same-long (one_more low), same-long (one_more (one_more (blob-first _ _ c.requires))))
 
 -- the last
 pub bounds-buffer-n-2 : goal.bounds-buffer-n-2
-bounds-buffer-n-2 c = in_buffer (quote-last c.loop-i.invariant c.loop-i-test.false)
+bounds-buffer-n-2 c = in_buffer (quote-last c.loop-b.invariant c.loop-b-test.false)
 
 pub shape_of-buffer : goal.shape_of-buffer
-shape_of-buffer c = same-long (one_more (quote-last c.loop-i.invariant c.loop-i-test.false)) ∙ same-long (one_more (one_more (blob-first _ _ c.requires)))
+shape_of-buffer c = same-long (one_more (quote-last c.loop-b.invariant c.loop-b-test.false)) ∙ same-long (one_more (one_more (blob-first _ _ c.requires)))
 
 pub returns : goal.returns
-returns c = whole (one_more (quote-last c.loop-i.invariant c.loop-i-test.false)) ∙ before-rebased (one_more (one_more (blob-first _ _ c.requires)))
+returns c = whole (one_more (quote-last c.loop-b.invariant c.loop-b-test.false)) ∙ before-rebased (one_more (one_more (blob-first _ _ c.requires)))
