@@ -26,6 +26,6 @@ told-alike (LexemeTooLong next) = refl
 abbrev pub LeadsOn : Stream → List ℕ → Given → Type 0
 LeadsOn s part g = (g.taken ≤ length part) × (length part - g.taken + held_behind g.stream < length part + held_behind s)
 
-pub leads-on : (s : Stream) (row part : List ℕ) (g : Given) (new : List ℕ) → Offered s row part g new → is_token g.answer ≡ true
+pub leads_on : (s : Stream) (row part : List ℕ) (g : Given) (new : List ℕ) → Offered s row part g new → is_token g.answer ≡ true
     → LeadsOn s part g
-leads-on s row part g new h t = leads s row part g new h (sym (told-alike g.answer) ∙ t)
+leads_on s row part g new h t = leads s row part g new h (sym (told-alike g.answer) ∙ t)

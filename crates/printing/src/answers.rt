@@ -30,6 +30,7 @@ pub enum Way {
 }
 
 // A line for each token, then END, the offset and the number of tokens, or the refusal, its span and the offset.
+#[tactic(auto, using(crate::proofs::Walks::advances))]
 pub(crate) fn put_walk(out: &mut Out<'_, impl Print + Eprint>, source: Source, way: Way) {
     let mut cursor = Cursor { at: source.offset };
     let mut tokens = 0;

@@ -1,5 +1,5 @@
 // The input, read in pieces as large as the row of bytes allows, and its records.
-ghost use Rattle.std.specs.Prelude.{◌≡◌, ◌-◌, length};
+ghost use Rattle.std.specs.Prelude.{◌≡◌, ◌-◌, ◌≤◌, ◌<◌, length};
 ghost use Rattle.printing.specs.Rows.{Holds};
 
 use rows::input::{NoText, Text, record_at};
@@ -37,7 +37,10 @@ impl From<NoText> for NoRecord {
 
 impl<'a> Records<'a> {
     // The bytes from one place to before another are read and not used yet: none where they do not lie in the row.
-    pub fn new(row: &'a mut [u8], from: usize, to: usize) -> Records<'a> {
+    pub fn new(row: &'a mut [u8], from: usize, to: usize) -> Records<'a>
+        ensures kept { from ≤ to → to ≤ length row.old → (result.end ≡ from) × (result.to ≡ to) }
+        ensures none { length row.old < to → result.end ≡ result.to }
+    {
         if from <= to && to <= row.len() {
             return Records {
                 row,
@@ -55,7 +58,9 @@ impl<'a> Records<'a> {
     }
 
     // The text of the record that was read last.
-    pub fn text(&self) -> &[u8] {
+    pub fn text(&self) -> &[u8]
+        ensures { length result.now ≡ self.now.end - self.now.start }
+    {
         &self.row[self.start..self.end]
     }
 

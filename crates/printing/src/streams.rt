@@ -40,6 +40,7 @@ pub(crate) fn put_stream(
 
 // Offers the part, and while a token comes what is left of it, also where that is nothing: what is held may give a token more. Each token
 // has a byte at least, so that they run out.
+#[tactic(auto, using(crate::proofs::Offers::leads_on))]
 fn put_part(
     out: &mut Out<'_, impl Print + Eprint>,
     before: Stream,

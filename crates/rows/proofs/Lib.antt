@@ -1,3 +1,2 @@
 pub mod OutLaws
-pub mod RecordLaws
 pub mod Theorems

@@ -29,6 +29,7 @@ fn number(row: &[u8], at: usize) -> usize
 }
 
 // The record that starts at the row's beginning.
+#[tactic(auto, unfolding(crate::specs::Records::record_at))]
 pub fn record_at(row: &[u8]) -> Result<Text, NoText>
     ensures value { result ≡ record_at row.now }
     ensures inside { IfOk result (λ text. (text.start ≤ text.end) × (text.end ≤ length row.now)) }

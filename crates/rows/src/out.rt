@@ -1,7 +1,7 @@
 // What is printed, gathered in a row of bytes that is written whenever it is full: a call of the system for each piece would cost
 // more than the lexing. A row of no bytes prints nothing. What cannot be written is told on standard error and is lost, so that each
 // call answers as if it were written.
-ghost use Rattle.std.specs.Prelude.{◌≡◌};
+ghost use Rattle.std.specs.Prelude.{◌≡◌, take};
 ghost use Rattle.rows.specs.Counts.{IsPrefixLen};
 ghost use Rattle.rows.specs.Out.{Within, Gives, filled_of, one_more, more};
 
@@ -37,13 +37,21 @@ impl<'a, P: Print + Eprint> Out<'a, P> {
         } = self;
     }
 
-    // Where they cannot be written, that is told.
+    // What is filled.
+    pub fn bytes(&self) -> &[u8]
+        ensures { result.now ≡ take self.now.filled self.now.row.now }
+    {
+        &self.row[..self.filled]
+    }
+
+    // Where the filled bytes cannot be written, that is told.
     fn write_filled(&self) {
-        if self.rt.write_all(&self.row[..self.filled]).is_err() {
+        if self.rt.write_all(self.bytes()).is_err() {
             complain(self.rt, b"standard output cannot be written\n");
         }
     }
 
+    #[tactic(auto, unfolding(crate::specs::Out::one_more))]
     pub fn put_byte(&mut self, b: u8)
         ensures same_reference { self.new.row.ghost_name ≡ self.old.row.ghost_name }
         ensures gives { Gives (one_more self.old.row.now self.old.filled b) self.new.row.now self.new.filled }
@@ -61,6 +69,7 @@ impl<'a, P: Print + Eprint> Out<'a, P> {
         self.filled = 1;
     }
 
+    #[tactic(auto, using(crate::proofs::OutLaws::put_on, crate::proofs::OutLaws::put_none))]
     pub fn put(&mut self, text: &[u8])
         ensures same_reference { self.new.row.ghost_name ≡ self.old.row.ghost_name }
         ensures gives { Gives (more self.old.row.now self.old.filled text.now) self.new.row.now self.new.filled }
