@@ -18,7 +18,7 @@ use Rattle.keywords.proofs.Logic.{and_left, and_right, every}
 use Rattle.keywords.proofs.SameLaws.{same_true}
 use Rattle.keywords.proofs.FillLaws.{row-length, row_at, row-behind}
 use Rattle.keywords.proofs.Tables.{letter_list, kind_list, sizes, totals, starts, sized, placed, rule}
-use Rattle.keywords.proofs.StoredLaws.{none, word_at, start-next, start_small}
+use Rattle.keywords.proofs.StoredLaws.{none, word_at, start-next}
 
 store_is : store ≡ letter_list
 store_is = same_true store letter_list rule.letters
@@ -38,20 +38,14 @@ bounded m [] h t i = h
 bounded m (b ∷ l) h t zero = ltb-true b m (and_left (ltb b m) _ t)
 bounded m (b ∷ l) h t (suc i) = bounded m l h (and_right (ltb b m) _ t) i
 
--- the letters and kinds are bytes, those of the lists
+-- the letters and kinds are those of the lists
 pub letters-are : (p : ℕ) → get_or letter_list p 0 ≡ letter_at p
 unfolding letter_at
 letters-are p = ap (λ l. get_or l p 0) (sym store_is)
 
-pub letter-byte : (p : ℕ) → letter_at p < 256
-letter-byte p = rw (← letters-are p) (bounded 256 letter_list (omega arith) refl p)
-
 pub kinds-are : (k : ℕ) → get_or kind_list k 0 ≡ kind_at k
 unfolding kind_at
 kinds-are k = ap (λ l. get_or l k 0) (sym kind-list)
-
-pub kind-byte : (k : ℕ) → kind_at k < 256
-kind-byte k = rw (← kinds-are k) (bounded 256 kind_list (omega arith) refl k)
 
 -- the starts are the sizes' totals
 totals-are : (ns : List ℕ) (x a : ℕ) → a ≡ start_of x → sized x ns ≡ true → (j : ℕ) → j < length ns → get_or (totals a ns) j 0 ≡ start_of (x + j)
@@ -66,9 +60,6 @@ totals-are (n ∷ ns) x a e t (suc j) h =
 pub starts-are : (x : ℕ) → x < 504 → starts x ≡ start_of x
 unfolding start_of
 starts-are x h = totals-are sizes 0 0 refl rule.groups x (omega arith) ∙ ap start_of (zero-add x)
-
-pub start-byte : (x : ℕ) → x < 504 → start_of x < 256
-start-byte x h = omega (arith, start-next x, start_small x h, stored-length)
 
 -- a word among those behind and before it
 joined-split : (es : List Entry) (k : ℕ) → k < length es → joined es ≡ joined (take k es) ++ ((get_or es k none).word ++ joined (drop (suc k) es))
