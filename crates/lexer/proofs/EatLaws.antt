@@ -39,6 +39,12 @@ unfolding sees head
 none-sees t [] e = refl
 none-sees t (x ∷ l) e = absurd (let z : ◌≡◌ {A = Bool} true false = cc in true≢false z)
 
+-- a test of what is peeked
+pub head-tested : (t : Set) (l : List ℕ) (o : Option ℕ) (r : Bool) (P : ℕ → Type 0) → o ≡ head l → MatchOption o (r ≡ false) P
+    → ((b : ℕ) → P b → r ≡ holds t b) → r ≡ sees t l
+head-tested t l None r P e m f = m ∙ none-sees t l e
+head-tested t l (Some b) r P e m f = f b m ∙ head-sees t b l e
+
 -- a byte is eaten, or none is there
 pub moved_on : (s : List ℕ) (at : ℕ) → at < length s → at + 1 ≡ moved at s
 unfolding moved

@@ -35,10 +35,7 @@ impl Cursor {
     pub(crate) fn sees<K: ByteSet>(self, text: &[u8], set: K) -> bool
         ensures { result ≡ sees (K.set set) (drop self.at text.now) }
     {
-        match self.peek(text) {
-            Some(b) => set.has(b),
-            None => false,
-        }
+        self.peek(text).is_some_and(|b| set.has(b))
     }
 
     pub(crate) fn sees_pair(self, text: &[u8]) -> bool

@@ -1,10 +1,7 @@
 -- `lexer::cursor::Cursor::sees` meets its contract. Assumes nothing.
-use Rattle.lexer.proofs.EatLaws.{head-sees, none-sees}
-use mathlib.Core.Path.{◌∙◌}
+use Rattle.std.proofs.Common.{rules}
+use Rattle.lexer.proofs.EatLaws.{head-tested}
 use Rattle.lexer.proofs.cursor.Cursor.sees.Goals as goal
 
-pub returns-in-Some : goal.returns-in-Some
-returns-in-Some g c = c.has.ensures ∙ head-sees _ _ _ c.in-Some.ensures
-
-pub returns-in-None : goal.returns-in-None
-returns-in-None g c = none-sees _ _ c.in-None.ensures
+pub returns : goal.returns
+returns g c = head-tested _ _ _ _ _ c.peek.ensures c.is_some_and.ensures (λ x p. search rules)
