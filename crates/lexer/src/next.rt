@@ -1,5 +1,5 @@
 // The longest lexeme at a cursor.
-ghost use Rattle.std.specs.Prelude.{◌≡◌, false};
+ghost use Rattle.std.specs.Prelude.{◌≡◌, ◌<◌, false, length};
 ghost use Rattle.words.specs.Bytes.{is_blank};
 ghost use Rattle.grammar.specs.Form.{D, S, byte, ◌or◌};
 ghost use Rattle.grammar.specs.Classes.{U};
@@ -50,7 +50,7 @@ pub fn next(text: &[u8], cursor: Cursor, profile: Profile) -> Lexed
 
 // By the first byte, which is no blank.
 fn eat_lexeme(text: &[u8], start: Cursor, b: u8, profile: Profile) -> Lexed
-    requires { At (byte b) start.at text.now × (is_blank b ≡ false) }
+    requires { At (byte b) start.at text.now × (is_blank b ≡ false) × (start.at < length text.now) }
     ensures { LexesUnder profile text.now start.at result }
 {
     match b {

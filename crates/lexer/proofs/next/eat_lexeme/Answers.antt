@@ -4,45 +4,11 @@ use Rattle.words.specs.Bytes.{is_digit}
 use Rattle.grammar.specs.Classes.{U, operators}
 use Rattle.grammar.specs.Form.{D, S, one_of, ◌or◌}
 use Rattle.grammar.proofs.Reading.{spelled-first}
-use Rattle.grammar.proofs.Seen.{seen-in}
 use Rattle.lexer.proofs.NextLaws.{byte-in, key-lexed, key-lift, key-seen, key-two-lexed, later, lift, quote-in}
 use Rattle.lexer.proofs.OperatorLaws.{follow, is_operator}
 use Rattle.lexer.proofs.ParameterLaws.{dollar-reads}
 use borrow.Author.Rules.{rules}
 use Rattle.lexer.proofs.next.eat_lexeme.Goals as goal
-
-pub eat_one_token-requires : goal.eat_one_token-requires
-eat_one_token-requires c = seen-in _ _ _ c.requires.0
-
-pub eat_one_token-requires-in-41 : goal.eat_one_token-requires-in-41
-eat_one_token-requires-in-41 c = seen-in _ _ _ c.requires.0
-
-pub eat_one_token-requires-in-59 : goal.eat_one_token-requires-in-59
-eat_one_token-requires-in-59 c = seen-in _ _ _ c.requires.0
-
-pub eat_one_token-requires-in-43 : goal.eat_one_token-requires-in-43
-eat_one_token-requires-in-43 c = seen-in _ _ _ c.requires.0
-
-pub eat_one_token-requires-in-42 : goal.eat_one_token-requires-in-42
-eat_one_token-requires-in-42 c = seen-in _ _ _ c.requires.0
-
-pub eat_one_token-requires-in-37 : goal.eat_one_token-requires-in-37
-eat_one_token-requires-in-37 c = seen-in _ _ _ c.requires.0
-
-pub eat_one_or_two-requires : goal.eat_one_or_two-requires
-eat_one_or_two-requires c = seen-in _ _ _ c.requires.0
-
-pub eat_one_or_two-requires-in-124 : goal.eat_one_or_two-requires-in-124
-eat_one_or_two-requires-in-124 c = seen-in _ _ _ c.requires.0
-
-pub eat_one_token-requires-in-44 : goal.eat_one_token-requires-in-44
-eat_one_token-requires-in-44 c = seen-in _ _ _ c.requires.0
-
-pub eat_one_token-requires-in-126 : goal.eat_one_token-requires-in-126
-eat_one_token-requires-in-126 c = seen-in _ _ _ c.requires.0
-
-pub eat_one_token-requires-in-93 : goal.eat_one_token-requires-in-93
-eat_one_token-requires-in-93 c = seen-in _ _ _ c.requires.0
 
 pub eat_number_or_name-requires : goal.eat_number_or_name-requires
 eat_number_or_name-requires c = byte-in (D or S or U) _ _ c.requires.0 (later _ c.requires.1 (search rules))

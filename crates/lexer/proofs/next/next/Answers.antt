@@ -2,6 +2,7 @@
 use mathlib.Core.Path.{◌∙◌, refl, sym}
 use Rattle.words.specs.Bytes.{is_blank, is_digit}
 use Rattle.grammar.specs.Form.{blank}
+use Rattle.grammar.proofs.Seen.{seen-in}
 use Rattle.lexer.proofs.EatLaws.{head-sees}
 use Rattle.lexer.proofs.NextLaws.{byte-seen, end-lexed, lift, past-lexed}
 use Rattle.lexer.proofs.next.next.Goals as goal
@@ -22,4 +23,6 @@ returns-then-is_blank c =
     lift blank refl _ _ _ seen _ c.eat_white_space.ensures
 
 pub eat_lexeme-requires : goal.eat_lexeme-requires
-eat_lexeme-requires c = (byte-seen _ _ c.in-Some.ensures, sym c.is_blank.ensures ∙ c.if-is_blank.false)
+eat_lexeme-requires c =
+    let seen = byte-seen _ _ c.in-Some.ensures in
+    (seen, sym c.is_blank.ensures ∙ c.if-is_blank.false, seen-in _ _ _ seen)
