@@ -1,6 +1,7 @@
 // In parameters: behind a sigil, a colon, a name and digits.
-ghost use Rattle.std.specs.Prelude.{◌≡◌};
-ghost use Rattle.readings.specs.Arrows.{in_named, follow};
+ghost use Rattle.std.specs.Prelude.{◌≡◌, [], ◌∷◌, cond};
+ghost use Rattle.grammar.specs.Runs.{char};
+ghost use Rattle.readings.specs.Arrows.{in_named, ◌to◌, follow};
 
 use crate::single::only;
 use readings::reading::{Named, Reading};
@@ -10,9 +11,9 @@ pub(crate) fn in_named(named: Named, b: u8) -> Reading
     ensures { result ≡ follow (in_named named) b }
 {
     match named {
-        Named::Sigil => after_sigil(b),
+        Named::Sigil => name_or_colon(is_identifier_continue(b), b),
         Named::SigilColon => only(b == b':', Reading::Named(Named::Sigil)),
-        Named::Colon => after_colon(b),
+        Named::Colon => name_or_colon(is_identifier_start(b), b),
         Named::At => after_at(b),
         Named::Name => in_name(b),
         Named::NameColon => only(b == b':', Reading::Named(Named::Name)),
@@ -21,20 +22,11 @@ pub(crate) fn in_named(named: Named, b: u8) -> Reading
     }
 }
 
-fn after_sigil(b: u8) -> Reading
-    ensures { result ≡ follow (in_named Named.Sigil) b }
+// `in_name`: the byte is one of a name here. If not, a pair of colons may begin.
+fn name_or_colon(in_name: bool, b: u8) -> Reading
+    ensures { result ≡ cond in_name (Reading.Named Named.Name) (follow (char ":" to Reading.Named Named.SigilColon ∷ []) b) }
 {
-    if is_identifier_continue(b) {
-        Reading::Named(Named::Name)
-    } else {
-        only(b == b':', Reading::Named(Named::SigilColon))
-    }
-}
-
-fn after_colon(b: u8) -> Reading
-    ensures { result ≡ follow (in_named Named.Colon) b }
-{
-    if is_identifier_start(b) {
+    if in_name {
         Reading::Named(Named::Name)
     } else {
         only(b == b':', Reading::Named(Named::SigilColon))
@@ -47,7 +39,7 @@ fn after_at(b: u8) -> Reading
     if b == b'>' {
         Reading::Whole
     } else {
-        after_sigil(b)
+        name_or_colon(is_identifier_continue(b), b)
     }
 }
 
