@@ -36,7 +36,8 @@ pub enum Listed {
     },
 }
 
-// A record for each legal lexeme from the cursor on: kind, start, length, line, column.
+// A record for each legal lexeme from the cursor on: kind, start, length, line, column. The list is lent, as C lends it, and how
+// many records it has stands in the answer.
 pub fn list(text: &[u8], cursor: Cursor, profile: Profile, numbers: &mut [u32]) -> Listed
     ensures { Lists (source profile text.now) cursor.at numbers.old result numbers.new }
 {
