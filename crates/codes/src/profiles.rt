@@ -4,7 +4,7 @@ ghost use Rattle.codes.specs.Profiles.{profile_of, profile_number};
 
 use grammar::profile::Profile;
 
-// The profile that has this number, if one has.
+// The profile that has this number, if one has. Both types are foreign, so this is no `TryFrom`.
 pub fn profile_of(number: u32) -> Option<Profile>
     ensures { result ≡ profile_of number }
 {
