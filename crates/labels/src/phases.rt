@@ -4,7 +4,7 @@ ghost use Rattle.labels.specs.Phases.{phase_of, phase_number};
 
 use intake::state::Phase;
 
-// The phase that has this number, if one has.
+// The phase that has this number, if one has. Both types are foreign, so this is no `TryFrom`.
 pub fn phase_of(number: u32) -> Option<Phase>
     ensures { result ≡ phase_of number }
 {

@@ -4,6 +4,7 @@ ghost use Rattle.labels.specs.Readings.{reading_number, Numbers};
 
 use readings::reading::{Named, Number, Operator, Quoted, Reading, Run};
 
+// A reading's number is its place.
 static READINGS: [Reading; 47] = [
     Reading::Dead,
     Reading::Whole,
