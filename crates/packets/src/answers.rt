@@ -33,7 +33,8 @@ pub(crate) fn of_stream(answer: Answer) -> Numbers
     }
 }
 
-// Writes all but the status, and how many bytes were taken, or lexemes spent.
+// Writes all but the status, and how many bytes were taken, or lexemes spent. One function for this and `give` of `codes`, over an array of any
+// size, would be no plainer: it would write a number more or not by the size.
 pub fn give(numbers: Numbers, taken: usize, given: &mut [usize; 7]) -> u32
     ensures { (result ≡ numbers.status) × (given.new ≡ seven numbers taken) }
 {
