@@ -1,4 +1,5 @@
-// The answers of Next, List, its slices and the cut in numbers.
+// The answers of Next, List, its slices and the cut in numbers. These are functions and no `From`, since what the value is depends on the call,
+// which the name says.
 ghost use Rattle.std.specs.Prelude.{◌≡◌};
 ghost use Rattle.lists.specs.Parts.{spent_in};
 ghost use Rattle.codes.specs.Told.{of_next, of_list, of_part, of_cut, written};
