@@ -1,5 +1,7 @@
 // The first pass: a group is an opener, items and its closer, and an item is a group or any other record. Reading a group calls reading
 // items, one level deeper, and that calls reading a group. At most sixteen groups are open at once, so the stack has a bound.
+// Each takes the list as it is lent: over a struct with `are_records` as its invariant four requires would be shorter by a word, and every
+// clause longer by a field.
 ghost use Rattle.std.specs.Prelude.{◌≡◌, true, [], ◌≤◌, ◌<◌, length};
 ghost use Rattle.brackets.specs.Brackets.{nesting};
 ghost use Rattle.brackets.specs.Numbers.{are_records, kinds_of};
