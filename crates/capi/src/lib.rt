@@ -175,7 +175,7 @@ pub extern "C" fn sqllex_stream_finish(
     finish_numbers(stream, row, given)
 }
 
-// The value of a literal that is a span of a text.
+// The value of a literal that is a span of a text. C names each call, so these are written out one by one, and so are those that write.
 #[unsafe(no_mangle)]
 pub extern "C" fn sqllex_read_integer(
     text: &[u8],
