@@ -79,6 +79,7 @@ fn undouble(body: &[u8], quote: u8, buffer: &mut [u8]) -> Result<usize, ReadErro
     Ok(put_undoubled(body, quote, buffer))
 }
 
+// It counts what `put_undoubled` puts: one loop for both, over a closure for each byte, would need clauses on the closure, longer than a loop.
 fn undoubled_length(body: &[u8], quote: u8) -> usize
     ensures { result ≡ length (undoubled quote false body.now) }
 {

@@ -49,6 +49,7 @@ fn put_quoted(bytes: &[u8], quote: u8, buffer: &mut [u8])
     ensures { buffer.new ≡ before (quoted quote bytes.now) buffer.old }
 {
     buffer[0] = quote;
+    // The place in the buffer: it moves on by one or two.
     let mut n = 1;
     for &b in bytes {
         buffer[n] = b;
