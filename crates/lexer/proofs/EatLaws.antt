@@ -3,16 +3,12 @@ use Prim.Native.Nat.{ℕ, ◌+◌, ◌≤◌, ◌<◌}
 use native.Mathlib.Nat.{add-zero}
 use native.Mathlib.Numerals.{add-one}
 use native.Mathlib.Omega.{arith}
-use mathlib.Core.Path.{◌≡◌, refl, sym, ◌∙◌, ap, subst}
+use mathlib.Core.Path.{◌≡◌, refl, sym, ◌∙◌, ap}
 use mathlib.Core.Bool.{Bool, true, false, ◌&&◌, true≢false}
 use mathlib.Core.List.{List, [], ◌∷◌}
-use lib.ListN.{length, get_or, take, drop, length-drop, drop_of_length-le}
-use lib.Seq.{drop-cons, drop-drop, take-length}
-use denote.Ref.{Bor}
-use Rattle.std.specs.Prelude.{Option, Some, None, Ok, Err, MatchOption, unwrap_or, option_copied}
-use Rattle.std.specs.List.{AllWithin, HoldsAt, slice_range}
-use Rattle.std.specs.Slice.{IsItemAt}
-use Rattle.std.proofs.lemmas.Iterator.{index_from_first}
+use lib.ListN.{length, get_or, drop, drop_of_length-le}
+use lib.Seq.{drop-cons, drop-drop}
+use Rattle.std.specs.Prelude.{Option, Some, None, Ok, Err, MatchOption}
 use Rattle.keywords.proofs.Logic.{split, and_left, and-false}
 use Rattle.grammar.specs.Form.{Set, byte, no, ◌or◌, holds}
 use Rattle.grammar.specs.Answers.{is_hex}
@@ -54,28 +50,19 @@ pub moved-not : (s : List ℕ) (at : ℕ) → length s ≤ at → at ≡ moved a
 unfolding moved
 moved-not s at h = rw (drop_of_length-le s h, add-zero)
 
-pub peeked : (s : List ℕ) (at : ℕ) (r : Option (Bor ℕ)) → IsItemAt s at r → option_copied r ≡ head (drop at s)
-peeked s at None e = head-none s at e.3
-peeked s at (Some x) e = ap Some (e.4 (omega arith) 0) ∙ head-some s at e.3.0
-
--- a run that goes to the end, and one up to the first byte that the set has not
+-- a loop over a run: from i it ends where it ends from the start
 module _ (t : Set) (s : List ℕ) (i : ℕ) where
   pub over-more : i < length s → holds t (get_or s i 0) ≡ true → over t i s ≡ over t (i + 1) s
   unfolding over run_length
   over-more h e = rw (drop-cons s i 0 h, e, add-one i) (omega arith)
 
-  pub over-end : length s < i → i ≡ over t i s
+  pub over-stop : i < length s → holds t (get_or s i 0) ≡ false → over t i s ≡ i
   unfolding over run_length
-  over-end h = rw (drop_of_length-le s {i = i} (omega arith), add-zero)
+  over-stop h e = rw (drop-cons s i 0 h, e, add-zero)
 
-  pub over-first : (l : List ℕ) → l ≡ slice_range s i (length s) → (o : Option ℕ)
-      → MatchOption o (AllWithin (λ b. holds t b ≡ true) l 0 (length l)) (λ k. (k < length l) × HoldsAt (λ b. holds t b ≡ false) l k × AllWithin (λ b. holds t b ≡ true) l 0 k)
-      → i + unwrap_or o (length l) ≡ over t i s
+  pub over-end : length s ≤ i → over t i s ≡ i
   unfolding over run_length
-  over-first l e o f =
-      let n = index_from_first (run_length t) (λ b. holds t b ≡ false) (λ b. holds t b ≡ true) refl (λ x xs h. rw h) (λ x xs h. rw h (omega arith)) l o f in
-      let whole : l ≡ drop i s = e ∙ subst (λ (n : ℕ). take n (drop i s) ≡ drop i s) (length-drop i s) (take-length (drop i s)) in
-      rw (← n, whole)
+  over-end h = rw (drop_of_length-le s h, add-zero)
 
 -- `::`
 pub pair-first : (l : List ℕ) → false ≡ sees (char ":") l → false ≡ sees_pair l

@@ -1,20 +1,18 @@
 -- `lexer::cursor::Cursor::eat_while` meets its contract. Assumes nothing.
-use borrow.Author.Tests.{tests}
-use Prim.Native.Nat.{◌+◌}
-use mathlib.Core.Bool.{true, false}
-use mathlib.Core.Path.{◌≡◌, ◌∙◌, ap}
-use Rattle.std.proofs.Common.{rules}
-use Rattle.std.proofs.lemmas.Iterator.{IsFirst-from_position, YieldsList-from_slice}
-use Rattle.grammar.specs.Form.{holds}
-use Rattle.lexer.proofs.EatLaws.{over-end, over-first}
+use native.Mathlib.Omega.{arith}
+use mathlib.Core.Path.{sym, ◌∙◌}
+use Rattle.lexer.proofs.EatLaws.{over-end, over-more, over-stop}
 use Rattle.lexer.proofs.cursor.Cursor.eat_while.Goals as goal
 
-pub returns-in_default-clause-place : goal.returns-in_default-clause-place
-returns-in_default-clause-place g c = over-end _ _ _ (search rules)
+pub loop-at-preserved : goal.loop-at-preserved
+loop-at-preserved g c = (
+  c.loop-at.invariant.0 ∙ over-more (g.K.ByteSet.set c.args.set) _ c.loop-at.at c.loop-at-test.true (sym c.has.ensures ∙ c.if-has.true),
+  omega (arith, c.loop-at.invariant.1),
+)
 
-pub returns-clause-place : goal.returns-clause-place
-returns-clause-place g c =
-    let t = g.K.ByteSet.set c.args.set in
-    let first = IsFirst-from_position _ _ _ (λ b. holds t b ≡ false) (λ b. holds t b ≡ true) c.position-run.ensures.ran
-    (YieldsList-from_slice c.in-Some.rest.now cc) (λ x q k. search (rules, tests)) (λ x q k. search (rules, tests)) in
-    ap (λ n. c.args.self.at + n) c.unwrap_or.ensures ∙ over-first t _ _ _ c.in-Some.ensures.lookup.0.2 _ first
+pub returns-else-has-clause-place : goal.returns-else-has-clause-place
+returns-else-has-clause-place g c =
+    sym (c.loop-at.invariant.0 ∙ over-stop (g.K.ByteSet.set c.args.set) _ c.loop-at.at c.loop-at-test.true (sym c.has.ensures ∙ c.if-has.false))
+
+pub returns-after-loop-at-clause-place : goal.returns-after-loop-at-clause-place
+returns-after-loop-at-clause-place g c = sym (c.loop-at.invariant.0 ∙ over-end _ _ c.loop-at.at c.loop-at-test.false)

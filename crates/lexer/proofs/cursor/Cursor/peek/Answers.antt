@@ -1,7 +1,9 @@
 -- `lexer::cursor::Cursor::peek` meets its contract. Assumes nothing.
-use mathlib.Core.Path.{◌∙◌}
-use Rattle.lexer.proofs.EatLaws.{peeked}
+use Rattle.lexer.proofs.EatLaws.{head-none, head-some}
 use Rattle.lexer.proofs.cursor.Cursor.peek.Goals as goal
 
+pub returns-then-text-at : goal.returns-then-text-at
+returns-then-text-at c = head-none _ _ c.if-text-at.true
+
 pub returns : goal.returns
-returns c = c.copied.ensures ∙ peeked _ _ _ c.get.ensures.lookup
+returns c = head-some _ _ c.if-text-at.false
