@@ -1,18 +1,17 @@
 -- The row, byte by byte: what is brought to its front, and what is taken in behind that. Assumes nothing.
 use Prim.Native.Nat.{ℕ, suc, ◌+◌, ◌-◌, ◌≤◌, ◌<◌, min}
 use native.Mathlib.Omega.{arith}
-use native.Mathlib.Nat.{zero-add, add-zero}
+use native.Mathlib.Nat.{add_comm, zero-add, add-zero}
 use native.Mathlib.Numerals.{add-one}
 use mathlib.Core.Path.{◌≡◌, refl, sym, ◌∙◌, ap, subst}
 use mathlib.Core.Bool.{Bool, true, false, cond, ◌||◌, true≢false}
-use mathlib.Core.List.{List, [], ◌∷◌, ◌++◌}
+use mathlib.Core.List.{List, [], ◌∷◌, ◌++◌, append-nil}
 use mathlib.Core.Logic.{◌⊎◌, inl, inr}
 use lib.Dec.{leb, ltb, eqb}
 use lib.ListN.{length, take, drop, get_or, set, length-append, length-take, length-drop, length-set, take-append-drop, drop_of_length-le, get_or-append}
-use lib.Seq.{take-suc, drop-cons, append_snoc, set_at, length-take-le, take-append_seam, drop-append_seam, take-append-add, paste}
-use Rattle.std.proofs.lemmas.List.{drop-take, take_min}
-use lib.Seq.{drop-append-add, drop-drop, get_or-append-add, drop-length}
-use borrow.Author.Tests.{ltb-true, ltb-false, leb-false, le-ltb}
+use lib.Seq.{take-suc, drop-cons, append_snoc, set_at, length-take-le, take_all, take-length, take-append_seam, drop-append_seam, take-append-add}
+use lib.Seq.{drop-append-add, drop-drop, get_or-append-add, get_or-drop, get_or-take, drop-length}
+use borrow.Author.Tests.{ltb-true, ltb-false, leb-true, leb-false, eqb-true, le-ltb}
 use Rattle.keywords.proofs.Logic.{split}
 use Rattle.grammar.specs.declared.profile.Profile.{Profile}
 use Rattle.readings.specs.declared.reading.Reading.{Reading}
@@ -38,16 +37,25 @@ pub laid-length : (text row : List ℕ) (n : ℕ) → n ≤ length text → n �
 laid-length text row n l m =
     omega (arith, length-append (take n text) (drop n row), length-take-le n text l, length-drop n row)
 
+-- behind what is laid the row is as it was
+laid-byte : (text row : List ℕ) (n i : ℕ) → n ≤ length text → get_or (laid text n row) (n + i) 0 ≡ get_or row (n + i) 0
+laid-byte text row n i l =
+    let e = length-take-le n text l in
+    ap (λ (k : ℕ). get_or (laid text n row) (k + i) 0) (sym e) ∙ get_or-append-add (take n text) (drop n row) i 0 ∙ get_or-drop n row i 0
+
+unmoved : (row : List ℕ) (h : ℕ) → row ≡ laid (take h row) (length (take h row)) row
+unmoved row h =
+    split (leb h (length row))
+    (λ e.
+    let l = length-take-le h row (leb-true h (length row) e) in
+    sym (take-append-drop h row) ∙ ap (λ (r : List ℕ). r ++ drop h row) (sym (take-length (take h row))) ∙ ap (λ (k : ℕ). take (length (take h row)) (take h row) ++ drop k row) (sym l))
+    (λ e.
+    let l = leb-false h (length row) e in
+    rw (take_all h row (omega arith)) (sym (rw (take-length row, drop-length row) (append-nil row))))
+
 or_right : (a b : Bool) → a || b ≡ false → b ≡ false
 or_right true b e = absurd (true≢false e)
 or_right false b e = e
-
--- where no token was given the bytes lie there
-brought_start : (row : List ℕ) (held : ℕ) → row ≡ front (behind 0 held row) row
-brought_start row held =
-    let m = min held (length row) in
-    sym (take-append-drop m row) ∙ ap (λ (u : List ℕ). u ++ drop m row) (take_min held row)
-    ∙ ap (λ (k : ℕ). take held row ++ drop k row) (sym (length-take held row))
 
 -- What is behind a token goes to the front.
 module _ (row : List ℕ) (given held : ℕ) where
@@ -60,24 +68,33 @@ module _ (row : List ℕ) (given held : ℕ) where
   pub behind-short : length w ≤ length row
   behind-short = omega (arith, behind-length)
 
+  -- nothing is to be moved where no token was given
+  pub bring-start : row ≡ laid w (read_so_far given (length w)) row
+  unfolding read_so_far
+  bring-start =
+      split (eqb given 0)
+      (λ e. rw e (subst (λ (g : ℕ). row ≡ laid (behind g held row) (length (behind g held row)) row) (sym (eqb-true given 0 e)) (unmoved row held)))
+      (λ e. rw e refl)
+
   pub read-inside : read_so_far given (length w) ≤ length w
   unfolding read_so_far
   read-inside = split (eqb given 0) (λ e. rw e (omega arith)) (λ e. rw e (omega arith))
 
-  -- brought by a copy; where no byte is behind the token, none is wanted
-  pub brought : (end : ℕ) → end ≡ min held (length row) → given < end → paste row 0 (drop given row) (end - given) ≡ front w row
-  brought end e l =
-      let k = end - given in
-      let there : take k (drop given row) ≡ w =
-      sym (drop-take given k row) ∙ ap (λ (m : ℕ). drop given (take m row)) (omega arith ∙ e) ∙ ap (drop given) (take_min held row) in
-      ap (λ (m : ℕ). take k (drop given row) ++ drop m row) (omega (arith, behind-length, e)) ∙ ap (λ (u : List ℕ). u ++ drop (length w) row) there
+  -- the byte that is moved is one behind the token
+  pub bring-byte : (at : ℕ) → at < length w → get_or (laid w at row) (given + at) 0 ≡ get_or w at 0
+  bring-byte at l =
+      let i : given + at < held = omega (arith, behind-length) in
+      ap (λ (k : ℕ). get_or (laid w at row) k 0) (add_comm given at)
+      ∙ laid-byte w row at given (omega arith)
+      ∙ ap (λ (k : ℕ). get_or row k 0) (add_comm at given)
+      ∙ sym (get_or-drop given (take held row) at 0 ∙ get_or-take held row (given + at) 0 i)
 
-  pub brought_none : (end : ℕ) → end ≡ min held (length row) → ((0 < given) × (end ≤ given)) ⊎ (given ≤ 0) → row ≡ front w row
-  brought_none end e (inl (o, l)) =
-      ap (λ (u : List ℕ). front u row) (sym (drop_of_length-le (take held row) {i = given} (omega (arith, length-take held row, e))))
-  brought_none end e (inr l) =
-      let none : 0 ≡ given = omega arith in
-      subst (λ (n : ℕ). row ≡ front (behind n held row) row) none (brought_start row held)
+  pub bring-more : (at : ℕ) → at < length w → set (laid w at row) at (get_or (laid w at row) (given + at) 0) ≡ laid w (suc at) row
+  bring-more at l =
+      ap (set (laid w at row) at) (bring-byte at l) ∙ lay w row at l (omega (arith, behind-short))
+
+  pub bring-end : (at : ℕ) → at ≡ length w → laid w at row ≡ front w row
+  bring-end at e = rw e (ap (λ (r : List ℕ). r ++ drop (length w) row) (take-length w))
 
 pub filling-length : (row : List ℕ) (read h : ℕ) (part : List ℕ) (taken : ℕ) → length (filling row read h part taken) ≡ length row
 unfolding filling

@@ -100,10 +100,10 @@ pub fn take_in(stream: Stream, row: &mut [u8], part: &[u8]) -> Taken
 pub fn bring(row: &mut [u8], given: usize, held: usize) -> usize
     ensures { (result ≡ length (behind given held row.old)) × (row.new ≡ front (behind given held row.old) row.old) }
 {
-    let end = held.min(row.len());
-    let back = end.saturating_sub(given);
-    if 0 < given && given < end {
-        row.copy_within(given..end, 0);
+    let back = held.min(row.len()).saturating_sub(given);
+    // no `copy_within`: the module for the Cortex-M4 (docs/DEVICE.md) has other bytes behind it
+    for at in read_so_far(given, back)..back {
+        row[at] = row[given + at];
     }
     back
 }
