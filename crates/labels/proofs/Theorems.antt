@@ -9,9 +9,7 @@ use mathlib.Core.List.{List, [], ◌∷◌}
 use lib.Dec.{eqb, ltb}
 use lib.ListN.{length, get_or}
 use borrow.Author.Tests.{eqb-true, ltb-true, eq-eqb}
-use Rattle.std.specs.Prelude.{Option, Some, None, option_copied}
-use Rattle.std.specs.Slice.{IsItemAt}
-use denote.Ref.{Bor}
+use Rattle.std.specs.Prelude.{Option, Some, None}
 use Rattle.keywords.proofs.Logic.{and_left, and_right}
 use Rattle.readings.specs.declared.reading.Reading.{Reading}
 use Rattle.readings.specs.declared.reading.Reading.TheVariants.{Dead}
@@ -48,11 +46,11 @@ pub reading-one : (r q : Reading) → reading_number r ≡ reading_number q → 
 reading-one r q e = same_number r q (eq-eqb (number r) (number q) (sym (placed r) ∙ e ∙ placed q))
 
 -- a list's readings have the numbers from k on
-abbrev counts : ℕ → List Reading → Bool
+abbrev pub counts : ℕ → List Reading → Bool
 counts k [] = true
 counts k (r ∷ l) = eqb (reading_number r) k && counts (suc k) l
 
-counted : (k : ℕ) (l : List Reading) (i : ℕ) (d : Reading) → counts k l ≡ true → i < length l → reading_number (get_or l i d) ≡ k + i
+pub counted : (k : ℕ) (l : List Reading) (i : ℕ) (d : Reading) → counts k l ≡ true → i < length l → reading_number (get_or l i d) ≡ k + i
 counted k [] i d e h = absurd (omega arith)
 counted k (r ∷ l) zero d e h = omega (arith, eqb-true (reading_number r) k (and_left (eqb (reading_number r) k) (counts (suc k) l) e))
 counted k (r ∷ l) (suc i) d e h = omega (arith, counted (suc k) l i d (and_right (eqb (reading_number r) k) (counts (suc k) l) e) (omega arith))
@@ -65,8 +63,3 @@ reading-unique n (Some r) (Some q) h i = ap Some (reading-one r q (h ∙ sym i))
 reading-unique n (Some r) None h i = absurd (omega (arith, reading_small r))
 reading-unique n None (Some q) h i = absurd (omega (arith, reading_small q))
 reading-unique n None None h i = refl
-
--- what a look-up in the list gives
-pub looked-up : (n : ℕ) (r : Option (Bor Reading)) → IsItemAt readings n r → Numbers n (option_copied r)
-looked-up n None h = h.3
-looked-up n (Some x) h = omega (arith, ap reading_number h.1, counted 0 readings n x.now refl h.3.0)

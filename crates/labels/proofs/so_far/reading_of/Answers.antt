@@ -1,8 +1,9 @@
 -- `labels::so_far::reading_of` meets its contract. Assumes nothing.
-use mathlib.Core.Path.{sym, subst}
-use Rattle.labels.specs.Readings.{Numbers}
-use Rattle.labels.proofs.Theorems.{looked-up}
+use native.Mathlib.Omega.{arith}
+use mathlib.Core.Path.{refl}
+use Rattle.readings.proofs.Numbers.{readings}
+use Rattle.labels.proofs.Theorems.{counted}
 use Rattle.labels.proofs.so_far.reading_of.Goals as goal
 
 pub returns : goal.returns
-returns c = subst (Numbers c.args.number) (sym c.copied.ensures) (looked-up _ _ c.get.ensures.lookup)
+returns c = counted 0 readings c.args.number _ refl c.if-READINGS-at.false
