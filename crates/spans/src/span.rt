@@ -7,6 +7,7 @@ use lexer::lexed::Lexed;
 use lexer::next::next;
 
 // How many digits the span has, where Next gives exactly it. The token is not taken from the caller, who could be wrong: Next is asked again.
+// Text, start, length and profile stand apart, here and in the calls that read: docs/CONTRACTS.md has the calls with these parameters.
 pub fn find(text: &[u8], start: usize, length: usize, kind: u32, profile: Profile) -> Option<u32>
     ensures { Finds profile text.now start length kind result }
 {
