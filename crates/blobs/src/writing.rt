@@ -26,6 +26,7 @@ fn put_blob(bytes: &[u8], buffer: &mut [u8])
 {
     buffer[0] = b'x';
     buffer[1] = b'\'';
+    // The place in the buffer: it moves on by two.
     let mut n = 2;
     for &b in bytes {
         buffer[n] = digit(b / 16);
