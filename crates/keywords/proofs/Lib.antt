@@ -5,6 +5,7 @@ pub mod FillLaws
 pub mod RowLaws
 pub mod WordLaws
 pub mod Theorems
+pub mod PackLaws
 pub mod StoredLaws
 pub mod Tables
 pub mod PlaceLaws
