@@ -1,6 +1,7 @@
 -- For readers. `unique`: two answers of `next` that meet its contract are equal. `table-lexed`: `next` answers what the grammar's table
 -- says. `counted`: what is known of a token's digits and underscores. `not-all-refused`, `not-all-of-kind`: whatever meets the contract gives
--- tokens, and not all of one kind. `moves` (Moves.antt): a token leads on, inside the text. Assumes nothing.
+-- tokens, and not all of one kind. `next-place`: two cursors that `Lexed::next` gives are equal. `moves`
+-- (Moves.antt): a token leads on, inside the text. Assumes nothing.
 use Prim.Native.Nat.{ℕ, ◌<◌, zero-le, suc-le-suc}
 use mathlib.Core.Path.{◌≡◌, refl, sym, ◌∙◌, ap, subst}
 use mathlib.Core.Bool.{true, true≢false}
@@ -60,6 +61,10 @@ lexed-back (Refused why start length next) = ap (λ (w : Refusal). Refused w sta
 pub unique : (π : Profile) (s : List ℕ) (at : ℕ) (r q : Lexed) → LexesUnder π s at r → LexesUnder π s at q → r ≡ q
 unfolding LexesUnder
 unique π s at r q g h = sym (lexed-back r) ∙ ap lexed_of (gives-unique (rules π) s at (values_of r) (values_of q) g h) ∙ lexed-back q
+
+-- and two cursors that `Lexed::next` may give: a cursor is its place
+pub next-place : (r : Lexed) (c d : Cursor) → c.at ≡ offset (values_of r) → d.at ≡ offset (values_of r) → c ≡ d
+next-place r c d p q = ap cursor (p ∙ sym q)
 
 -- A token has a class, and the digits and underscores that a lexeme of it can have.
 pub counted : (π : Profile) (s : List ℕ) (at k start n : ℕ) (next : Cursor) (d u : ℕ) → LexesUnder π s at (Token k start n next d u)
