@@ -241,6 +241,8 @@ static SKIPS: [u16; 18] = [
     0, 0, 0, 11, 32, 79, 149, 249, 370, 498, 639, 784, 930, 1079, 1229, 1379, 1529, 1679,
 ];
 
+// Each table is read by a function of its own, since it has its own width and contract: one for all would be handed the table.
+
 // Byte p of the words end to end.
 pub(crate) fn letter_at(p: u32) -> u8
     requires { p < 888 }

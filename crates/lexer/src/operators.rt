@@ -36,6 +36,8 @@ pub(crate) fn eat_one_or_two(text: &[u8], start: Cursor, one: u32, second: u8, t
     }
 }
 
+// A byte and a run behind it, as `eat_illegal` and `eat_numbered_var` are of other sets: they share this one expression, and each answers for
+// a class of its own.
 pub(crate) fn eat_white_space(text: &[u8], start: Cursor) -> Lexed
     requires { At blank start.at text.now }
     ensures { Lexes text.now start.at result }

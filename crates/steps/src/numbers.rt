@@ -80,6 +80,8 @@ fn after_dot(b: u8) -> Reading
     }
 }
 
+// A fraction, an exponent and hexadecimal digits have functions of their own: one would be handed their readings, which are loaded by address
+// then (docs/DECISIONS.md, `pick`).
 fn in_fraction(b: u8) -> Reading
     ensures { result ≡ follow (in_number Profile.Turso Number.Fraction) b }
 {
