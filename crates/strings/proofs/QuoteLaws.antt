@@ -8,10 +8,8 @@ use mathlib.Core.List.{List, [], ◌∷◌, ◌++◌}
 use lib.Dec.{eqb}
 use lib.ListN.{length, get_or, drop, length-append, drop_of_length-le}
 use lib.Seq.{take_at, drop-cons}
-use borrow.Author.Tests.{not-true}
+use borrow.Author.Tests.{not-true, eq-eqb, ne_eqb}
 use Rattle.keywords.proofs.Logic.{split, and_left, and_right, every}
-use Rattle.std.specs.Prelude.{count_by, filter}
-use Rattle.std.proofs.lemmas.List.Sums.{length-filter}
 use Rattle.words.specs.Bytes.{is}
 use Rattle.strings.specs.Quotes.{inner, undoubled, unquoted, doubled, quoted}
 
@@ -63,19 +61,17 @@ pub undoubled-end : (q : ℕ) (out : Bool) (w : List ℕ) (i : ℕ) → length w
 unfolding undoubled
 undoubled-end q out w i h = rw (drop_of_length-le w {i = i} h)
 
--- the literal's body is longer by its quotes
-doubled-filter : (q : ℕ) (v : List ℕ) → length (doubled q v) ≡ length v + length (filter (λ b. eqb b q) v)
-unfolding doubled
-doubled-filter q [] = refl
-doubled-filter q (b ∷ v) = split (eqb b q) (λ e. rw e (omega (arith, doubled-filter q v))) (λ e. rw e (omega (arith, doubled-filter q v)))
-
-pub doubled-count : (q : ℕ) (v : List ℕ) → length (doubled q v) ≡ length v + count_by (λ b. eqb b q) v
-doubled-count q v = omega (arith, doubled-filter q v, length-filter (λ b. eqb b q) v)
-
 pub doubled-at : (q : ℕ) (v : List ℕ) (i : ℕ) → i < length v
     → doubled q (drop i v) ≡ get_or v i 0 ∷ cond (eqb (get_or v i 0) q) (get_or v i 0 ∷ doubled q (drop (i + 1) v)) (doubled q (drop (i + 1) v))
 unfolding doubled
 doubled-at q v i h = rw (drop-cons v i 0 h, add-one i)
+
+-- a quote adds two bytes, any other byte one
+pub doubled-twice : (q : ℕ) (v : List ℕ) (i : ℕ) → i < length v → get_or v i 0 ≡ q → length (doubled q (drop i v)) ≡ 2 + length (doubled q (drop (i + 1) v))
+doubled-twice q v i h e = rw (doubled-at q v i h, eq-eqb (get_or v i 0) q e) (omega arith)
+
+pub doubled-once : (q : ℕ) (v : List ℕ) (i : ℕ) → i < length v → (get_or v i 0 ≡ q → ⊥) → length (doubled q (drop i v)) ≡ 1 + length (doubled q (drop (i + 1) v))
+doubled-once q v i h e = rw (doubled-at q v i h, ne_eqb (get_or v i 0) q e) (omega arith)
 
 pub doubled-end : (q : ℕ) (v : List ℕ) (i : ℕ) → length v ≤ i → doubled q (drop i v) ≡ []
 unfolding doubled
