@@ -46,14 +46,18 @@ pub reading-one : (r q : Reading) → reading_number r ≡ reading_number q → 
 reading-one r q e = same_number r q (eq-eqb (number r) (number q) (sym (placed r) ∙ e ∙ placed q))
 
 -- a list's readings have the numbers from k on
-abbrev pub counts : ℕ → List Reading → Bool
+abbrev counts : ℕ → List Reading → Bool
 counts k [] = true
 counts k (r ∷ l) = eqb (reading_number r) k && counts (suc k) l
 
-pub counted : (k : ℕ) (l : List Reading) (i : ℕ) (d : Reading) → counts k l ≡ true → i < length l → reading_number (get_or l i d) ≡ k + i
+counted : (k : ℕ) (l : List Reading) (i : ℕ) (d : Reading) → counts k l ≡ true → i < length l → reading_number (get_or l i d) ≡ k + i
 counted k [] i d e h = absurd (omega arith)
 counted k (r ∷ l) zero d e h = omega (arith, eqb-true (reading_number r) k (and_left (eqb (reading_number r) k) (counts (suc k) l) e))
 counted k (r ∷ l) (suc i) d e h = omega (arith, counted (suc k) l i d (and_right (eqb (reading_number r) k) (counts (suc k) l) e) (omega arith))
+
+-- what stands at a place of the list
+pub looked-up : (n : ℕ) (d : Reading) → n < length readings → reading_number (get_or readings n d) ≡ n
+looked-up n d h = omega (arith, counted 0 readings n d refl h)
 
 pub reading-at : (n : ℕ) → n < 47 → (r : Reading) × (reading_number r ≡ n)
 reading-at n h = (get_or readings n Dead, omega (arith, counted 0 readings n Dead refl h))
