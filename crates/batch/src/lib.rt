@@ -69,7 +69,7 @@ pub fn print_records(rt: &(impl Input + Print + Eprint), mode: Mode, profile: Pr
         &mut lent,
         &mut out,
     );
-    out.finish();
+    out.flush();
 }
 
 // A loop has to end, and nothing says that the input does: it counts up to a number that no input uses up.

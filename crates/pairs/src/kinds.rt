@@ -1,4 +1,5 @@
-// Which kinds are brackets, and the kind of a record. Two comparisons are faster here than `matches!`, which cost four instructions a record more.
+// Which kinds are brackets, and the kind of a record. Two comparisons are faster here than `matches!`, which cost four instructions a record
+// more.
 ghost use Rattle.std.specs.Prelude.{◌≡◌, ◌<◌, length, get_or};
 ghost use Rattle.brackets.specs.Brackets.{is_opener, is_closer, closer_of};
 ghost use Rattle.brackets.specs.Numbers.{kinds_of};

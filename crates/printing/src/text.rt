@@ -28,5 +28,5 @@ pub fn print_text(rt: &(impl Input + Print + Eprint)) {
         };
         put_walk(&mut out, source, Way::Next);
     }
-    out.finish();
+    out.flush();
 }

@@ -8,7 +8,8 @@ ghost use Rattle.rows.specs.Out.{Within, Gives, filled_of, one_more, more};
 use std::fmt::{Display, Write};
 use std::{fmt, str};
 
-// The row, of which the first `filled` bytes are filled. It is no `Drop`: only `finish` ends it, so that nothing which is put is forgotten.
+// The row, of which the first `filled` bytes are filled. What is not flushed is not printed.
+#[derive(Drop)]
 pub struct Out<'a, P: Print + Eprint> {
     rt: &'a P,
     row: &'a mut [u8],
@@ -27,16 +28,6 @@ impl<'a, P: Print + Eprint> Out<'a, P> {
         Out { rt, row, filled }
     }
 
-    // Writes the filled bytes.
-    pub fn finish(self) {
-        self.write_filled();
-        let Out {
-            rt: _,
-            row: _,
-            filled: _,
-        } = self;
-    }
-
     // What is filled.
     pub fn bytes(&self) -> &[u8]
         ensures { result.now ≡ take self.now.filled self.now.row.now }
@@ -44,8 +35,8 @@ impl<'a, P: Print + Eprint> Out<'a, P> {
         &self.row[..self.filled]
     }
 
-    // Where the filled bytes cannot be written, that is told.
-    fn write_filled(&self) {
+    // Writes what is filled, and tells where it cannot be written. The row stays as it is, and as much of it is filled.
+    pub fn flush(&self) {
         if self.rt.write_all(self.bytes()).is_err() {
             complain(self.rt, b"standard output cannot be written\n");
         }
@@ -61,7 +52,7 @@ impl<'a, P: Print + Eprint> Out<'a, P> {
             self.filled += 1;
             return;
         }
-        self.write_filled();
+        self.flush();
         if self.row.len() == 0 {
             return;
         }
