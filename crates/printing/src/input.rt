@@ -1,6 +1,6 @@
 // The input, read in pieces as large as the row of bytes allows, and its records.
-ghost use Rattle.std.specs.Prelude.{◌≡◌, ◌-◌, ◌≤◌, ◌<◌, length};
-ghost use Rattle.printing.specs.Rows.{Holds};
+ghost use Rattle.std.specs.Prelude.{◌≡◌, ◌≤◌, ◌<◌, length, slice_range};
+ghost use Rattle.printing.specs.Rows.{Holds, no_record};
 
 use rows::input::{NoText, Text, record_at};
 use rows::out::complain;
@@ -27,6 +27,8 @@ pub enum NoRecord {
 }
 
 impl From<NoText> for NoRecord {
+    ghost from_gives = { λ why e. e ≡ no_record why };
+
     fn from(why: NoText) -> NoRecord {
         match why {
             NoText::Short(n) => NoRecord::Short(n),
@@ -59,14 +61,14 @@ impl<'a> Records<'a> {
 
     // The text of the record that was read last.
     pub fn text(&self) -> &[u8]
-        ensures { length result.now ≡ self.now.end - self.now.start }
+        ensures { result.now ≡ slice_range self.now.row.now self.now.start self.now.end }
     {
         &self.row[self.start..self.end]
     }
 
     // What is read and not used yet.
     pub fn unread(&self) -> &[u8]
-        ensures { length result.now ≡ self.now.to - self.now.end }
+        ensures { result.now ≡ slice_range self.now.row.now self.now.end self.now.to }
     {
         &self.row[self.end..self.to]
     }
