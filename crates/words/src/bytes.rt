@@ -30,10 +30,18 @@ pub fn is_identifier_continue(b: u8) -> bool
     is_identifier_start(b) || is_digit(b) || b == b'$'
 }
 
-// 0B is no blank, here as in the Rust.
+// 0B is no blank, here as in the Rust. One value in each arm, which is one test of a bit: several in one are compared one by one, for each
+// token that `next` gives (docs/PERFORMANCE.md).
 #[tactic(auto, unfolding(crate::specs::Bytes::is_blank))]
 pub fn is_blank(b: u8) -> bool
     ensures { result ≡ is_blank b }
 {
-    matches!(b, 0x09 | 0x0A | 0x0C | 0x0D | 0x20)
+    match b {
+        0x09 => true,
+        0x0A => true,
+        0x0C => true,
+        0x0D => true,
+        0x20 => true,
+        _ => false,
+    }
 }
