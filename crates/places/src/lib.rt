@@ -61,12 +61,15 @@ fn skip_fours(text: &[u8], from: usize, to: usize) -> usize
     requires { (from ≤ to) × (to ≤ length text.now) }
     ensures { Clear text.now from to result }
 {
-    for at in (from..to).step_by(4) {
-        if to - at < 4 || four_have_newline(text, at) {
+    // by the fours' number: `step_by` over places takes a third more instructions (docs/PERFORMANCE.md)
+    let fours = (to - from) / 4;
+    for k in 0..fours {
+        let at = from + 4 * k;
+        if four_have_newline(text, at) {
             return at;
         }
     }
-    to
+    from + 4 * fours
 }
 
 // Tried: `contains` of the four takes 4 % more instructions over long comments on the device, and 578 bytes of code.
