@@ -3,6 +3,8 @@
 
 mod pairing;
 
+ghost use Rattle.std.specs.Prelude.{◌≡◌};
+
 use crate::pairing::put_pairing;
 use grammar::profile::Profile;
 use printing::MOST;
@@ -107,7 +109,9 @@ fn is_taken(mode: Mode, text: &[u8], offset: usize) -> bool {
     }
 }
 
-fn put_answer(out: &mut Out<'_, impl Print + Eprint>, mode: Mode, source: Source, lent: &mut Lent) {
+fn put_answer(out: &mut Out<'_, impl Print + Eprint>, mode: Mode, source: Source, lent: &mut Lent)
+    ensures same_reference { out.new.row.ghost_name ≡ out.old.row.ghost_name }
+{
     let Source {
         text,
         offset,

@@ -1,4 +1,6 @@
 // What is printed of a list: what `pair` answers for it, and the lent numbers behind the call. A record's text is the list's numbers.
+ghost use Rattle.std.specs.Prelude.{◌≡◌};
+
 use pairs::{PairError, pair};
 use printing::answers::put_numbers;
 use printing::lines::put_line;
@@ -14,7 +16,9 @@ pub(crate) fn put_pairing(
     given: &mut [u32],
     lent: &mut [u32],
     n: usize,
-) {
+)
+    ensures same_reference { out.new.row.ghost_name ≡ out.old.row.ghost_name }
+{
     let count = read_numbers(record, given);
     let room = n.min(lent.len());
     let partners = &mut lent[..room];
@@ -25,7 +29,9 @@ pub(crate) fn put_pairing(
     println!(out;);
 }
 
-fn put_paired(out: &mut Out<'_, impl Print + Eprint>, paired: Result<u32, PairError>) {
+fn put_paired(out: &mut Out<'_, impl Print + Eprint>, paired: Result<u32, PairError>)
+    ensures same_reference { out.new.row.ghost_name ≡ out.old.row.ghost_name }
+{
     match paired {
         Ok(levels) => put_line(out, "DEEPEST", &[levels as usize]),
         Err(PairError::NotRecords) => put_line(out, "NotRecords", &[0]),

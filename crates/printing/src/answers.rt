@@ -1,4 +1,5 @@
 // What is printed of a text: the tokens that `next` gives one after another, and the numbers of a list. `blocks` has the rest.
+ghost use Rattle.std.specs.Prelude.{◌≡◌};
 ghost use Rattle.lexer.specs.Values.{LexesUnder};
 
 use crate::lines::{put_columns, put_line, refusal_name};
@@ -31,7 +32,9 @@ pub enum Way {
 
 // A line for each token, then END, the offset and the number of tokens, or the refusal, its span and the offset.
 #[tactic(auto, using(crate::proofs::Walks::advances))]
-pub(crate) fn put_walk(out: &mut Out<'_, impl Print + Eprint>, source: Source, way: Way) {
+pub(crate) fn put_walk(out: &mut Out<'_, impl Print + Eprint>, source: Source, way: Way)
+    ensures same_reference { out.new.row.ghost_name ≡ out.old.row.ghost_name }
+{
     let mut cursor = Cursor { at: source.offset };
     let mut tokens = 0;
     loop {
@@ -71,26 +74,39 @@ fn lexed_at(text: &[u8], cursor: Cursor, way: Way, profile: Profile) -> Lexed
 }
 
 // What ends a token's line.
-fn put_counts(out: &mut Out<'_, impl Print + Eprint>, way: Way, digits: u32, underscores: u32) {
+fn put_counts(out: &mut Out<'_, impl Print + Eprint>, way: Way, digits: u32, underscores: u32)
+    ensures same_reference { out.new.row.ghost_name ≡ out.old.row.ghost_name }
+{
     match way {
-        Way::Next => println!(out;),
-        Way::Sums | Way::Reader => println!(out; "\t{digits}\t{underscores}"),
+        Way::Next => out.put_byte(b'\n'),
+        Way::Sums | Way::Reader => {
+            out.put_byte(b'\t');
+            print!(out; "{digits}");
+            out.put_byte(b'\t');
+            print!(out; "{underscores}");
+            out.put_byte(b'\n');
+        }
     }
 }
 
 // In one line, parted by blanks.
-pub fn put_numbers(out: &mut Out<'_, impl Print + Eprint>, numbers: &[u32]) {
+pub fn put_numbers(out: &mut Out<'_, impl Print + Eprint>, numbers: &[u32])
+    ensures same_reference { out.new.row.ghost_name ≡ out.old.row.ghost_name }
+{
     if let Some((first, others)) = numbers.split_first() {
         print!(out; "{first}");
         for n in others {
-            print!(out; " {n}");
+            out.put_byte(b' ');
+            print!(out; "{n}");
         }
     }
-    println!(out;);
+    out.put_byte(b'\n');
 }
 
 // END, the offset and the number of records, or the refusal, its span, the offset and the number of records.
-pub(crate) fn put_listed(out: &mut Out<'_, impl Print + Eprint>, listed: Listed) {
+pub(crate) fn put_listed(out: &mut Out<'_, impl Print + Eprint>, listed: Listed)
+    ensures same_reference { out.new.row.ghost_name ≡ out.old.row.ghost_name }
+{
     match listed {
         Listed::End { records, next } => put_line(out, "END", &[next.at, records]),
         Listed::Refused {
@@ -109,7 +125,9 @@ pub(crate) fn put_listed(out: &mut Out<'_, impl Print + Eprint>, listed: Listed)
 
 // The same, with how many lexemes were spent at the end of the line. Paused is told as a refusal is. What stops at a legal lexeme has a
 // span of no byte there.
-pub(crate) fn put_listed_part(out: &mut Out<'_, impl Print + Eprint>, part: Part) {
+pub(crate) fn put_listed_part(out: &mut Out<'_, impl Print + Eprint>, part: Part)
+    ensures same_reference { out.new.row.ghost_name ≡ out.old.row.ghost_name }
+{
     match part {
         Part::End {
             records,

@@ -1,4 +1,6 @@
 // What the answers print, with an empty line behind each.
+ghost use Rattle.std.specs.Prelude.{◌≡◌};
+
 use crate::answers::{Source, Way, put_listed, put_listed_part, put_numbers, put_walk};
 use crate::lines::{put_line, refusal_name};
 use crate::streams::put_stream;
@@ -11,9 +13,11 @@ use names::name_of;
 use rows::out::Out;
 use words::lookup::{is_quotable_keyword, keyword_or_id_token};
 
-pub fn put_walk_block(out: &mut Out<'_, impl Print + Eprint>, source: Source, way: Way) {
+pub fn put_walk_block(out: &mut Out<'_, impl Print + Eprint>, source: Source, way: Way)
+    ensures same_reference { out.new.row.ghost_name ≡ out.old.row.ghost_name }
+{
     put_walk(out, source, way);
-    println!(out;);
+    out.put_byte(b'\n');
 }
 
 // A list into the first n numbers, or into all where there are fewer. They are printed in one line, which shows also those that `list`
@@ -23,7 +27,9 @@ pub fn put_list_block(
     source: Source,
     numbers: &mut [u32],
     n: usize,
-) {
+)
+    ensures same_reference { out.new.row.ghost_name ≡ out.old.row.ghost_name }
+{
     let lent = n.min(numbers.len());
     let numbers = &mut numbers[..lent];
     numbers.fill(u32::MAX);
@@ -31,7 +37,7 @@ pub fn put_list_block(
     let listed = list(source.text, start, source.profile, numbers);
     put_numbers(out, numbers);
     put_listed(out, listed);
-    println!(out;);
+    out.put_byte(b'\n');
 }
 
 // A slice of a list without TK_NONE, into as many.
@@ -41,7 +47,9 @@ pub fn put_part_block(
     allowance: u32,
     numbers: &mut [u32],
     n: usize,
-) {
+)
+    ensures same_reference { out.new.row.ghost_name ≡ out.old.row.ghost_name }
+{
     let lent = n.min(numbers.len());
     let numbers = &mut numbers[..lent];
     numbers.fill(u32::MAX);
@@ -49,11 +57,13 @@ pub fn put_part_block(
     let part = list_part(source.text, start, source.profile, allowance, numbers);
     put_numbers(out, numbers);
     put_listed_part(out, part);
-    println!(out;);
+    out.put_byte(b'\n');
 }
 
 // CUT, the span, whether it has a token that counts, and the offset; or OPEN or END, the span and the offset; or the refusal.
-pub fn put_cut_block(out: &mut Out<'_, impl Print + Eprint>, source: Source) {
+pub fn put_cut_block(out: &mut Out<'_, impl Print + Eprint>, source: Source)
+    ensures same_reference { out.new.row.ghost_name ≡ out.old.row.ghost_name }
+{
     let start = Cursor { at: source.offset };
     match cut(source.text, start, source.profile) {
         Statement::Cut {
@@ -75,14 +85,16 @@ pub fn put_cut_block(out: &mut Out<'_, impl Print + Eprint>, source: Source) {
             next,
         } => put_line(out, refusal_name(why), &[start, length, next.at]),
     }
-    println!(out;);
+    out.put_byte(b'\n');
 }
 
 // The kind's name, and 1 where `is_quotable_keyword` holds, else 0.
-pub fn put_word_block(out: &mut Out<'_, impl Print + Eprint>, word: &[u8]) {
+pub fn put_word_block(out: &mut Out<'_, impl Print + Eprint>, word: &[u8])
+    ensures same_reference { out.new.row.ghost_name ≡ out.old.row.ghost_name }
+{
     let name = name_of(keyword_or_id_token(word));
     put_line(out, name, &[usize::from(is_quotable_keyword(word))]);
-    println!(out;);
+    out.put_byte(b'\n');
 }
 
 pub fn put_stream_block(
@@ -90,7 +102,9 @@ pub fn put_stream_block(
     script: &[u8],
     profile: Profile,
     held: &mut [u8; 2050],
-) {
+)
+    ensures same_reference { out.new.row.ghost_name ≡ out.old.row.ghost_name }
+{
     put_stream(out, script, profile, held);
-    println!(out;);
+    out.put_byte(b'\n');
 }

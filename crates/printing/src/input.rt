@@ -14,7 +14,7 @@ pub struct Records<'a> {
     start: usize,
     end: usize,
     to: usize,
-    ghost holds: { Holds row.now start end to },
+    pub ghost holds: { Holds row.now start end to },
 }
 
 // Over: the input ends where a record would start. Short: a record of at least so many bytes is cut off. Bad: its text is longer than
@@ -40,6 +40,7 @@ impl From<NoText> for NoRecord {
 impl<'a> Records<'a> {
     // The bytes from one place to before another are read and not used yet: none where they do not lie in the row.
     pub fn new(row: &'a mut [u8], from: usize, to: usize) -> Records<'a>
+        ensures same_reference { result.row.ghost_name ≡ row.entry.ghost_name }
         ensures kept { from ≤ to → to ≤ length row.old → (result.end ≡ from) × (result.to ≡ to) }
         ensures none { length row.old < to → result.end ≡ result.to }
     {
@@ -79,7 +80,9 @@ impl<'a> Records<'a> {
         rt: &impl Eprint,
         input: &mut impl Read,
         n: usize,
-    ) -> Result<(), NoRecord> {
+    ) -> Result<(), NoRecord>
+        ensures same_reference { self.new.row.ghost_name ≡ self.old.row.ghost_name }
+    {
         if n <= self.to - self.end {
             return Ok(());
         }
@@ -101,7 +104,9 @@ impl<'a> Records<'a> {
     }
 
     // Reads the next record, and gives its offset.
-    pub fn next(&mut self, rt: &impl Eprint, input: &mut impl Read) -> Result<usize, NoRecord> {
+    pub fn next(&mut self, rt: &impl Eprint, input: &mut impl Read) -> Result<usize, NoRecord>
+        ensures same_reference { self.new.row.ghost_name ≡ self.old.row.ghost_name }
+    {
         self.fill(rt, input, 8)?;
         if self.unread().is_empty() {
             return Err(NoRecord::Over);

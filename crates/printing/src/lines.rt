@@ -1,18 +1,25 @@
 // The lines that are printed: names and numbers with a tab between them.
+ghost use Rattle.std.specs.Prelude.{◌≡◌};
+
 use lexer::lexed::Refusal;
 use rows::out::Out;
 
 // A name, and the numbers behind it.
-pub fn put_line(out: &mut Out<'_, impl Print + Eprint>, name: &str, numbers: &[usize]) {
+pub fn put_line(out: &mut Out<'_, impl Print + Eprint>, name: &str, numbers: &[usize])
+    ensures same_reference { out.new.row.ghost_name ≡ out.old.row.ghost_name }
+{
     put_columns(out, name, numbers);
-    println!(out;);
+    out.put_byte(b'\n');
 }
 
 // The same, and the line goes on.
-pub(crate) fn put_columns(out: &mut Out<'_, impl Print + Eprint>, name: &str, numbers: &[usize]) {
-    print!(out; "{name}");
+pub(crate) fn put_columns(out: &mut Out<'_, impl Print + Eprint>, name: &str, numbers: &[usize])
+    ensures same_reference { out.new.row.ghost_name ≡ out.old.row.ghost_name }
+{
+    out.put(name.as_bytes());
     for n in numbers {
-        print!(out; "\t{n}");
+        out.put_byte(b'\t');
+        print!(out; "{n}");
     }
 }
 

@@ -1,6 +1,6 @@
 // One text walked with the tokens' digits and underscores, by `next` and by a reader, listed and cut. A list answers otherwise where it has
 // no room for the text's records, so it is made at several lengths.
-ghost use Rattle.std.specs.Prelude.{◌≤◌};
+ghost use Rattle.std.specs.Prelude.{◌≡◌, ◌≤◌};
 
 use crate::MOST;
 use crate::answers::{Source, Way};
@@ -13,7 +13,9 @@ use rows::out::Out;
 // Lists of fewer numbers than these have no record, one or two, and some numbers over.
 const FEW: usize = 2 * WIDTH + 2;
 
-pub fn put_replay(out: &mut Out<'_, impl Print + Eprint>, source: Source, numbers: &mut [u32]) {
+pub fn put_replay(out: &mut Out<'_, impl Print + Eprint>, source: Source, numbers: &mut [u32])
+    ensures same_reference { out.new.row.ghost_name ≡ out.old.row.ghost_name }
+{
     put_walk_block(out, source, Way::Sums);
     put_walk_block(out, source, Way::Reader);
     for n in 0..FEW {
@@ -24,7 +26,9 @@ pub fn put_replay(out: &mut Out<'_, impl Print + Eprint>, source: Source, number
 }
 
 // Lists of one number too few for the text's records, of just enough, and of four more.
-fn put_near(out: &mut Out<'_, impl Print + Eprint>, source: Source, numbers: &mut [u32]) {
+fn put_near(out: &mut Out<'_, impl Print + Eprint>, source: Source, numbers: &mut [u32])
+    ensures same_reference { out.new.row.ghost_name ≡ out.old.row.ghost_name }
+{
     let full = WIDTH * records(source, numbers);
     put_list_block(out, source, numbers, full.saturating_sub(1));
     put_list_block(out, source, numbers, full);

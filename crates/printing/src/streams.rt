@@ -17,7 +17,9 @@ pub(crate) fn put_stream(
     script: &[u8],
     profile: Profile,
     held: &mut [u8; 2050],
-) {
+)
+    ensures same_reference { out.new.row.ghost_name ≡ out.old.row.ghost_name }
+{
     let mut stream = begin(profile);
     let mut rest = script;
     while let Some((length, calls)) = rest.split_first_chunk() {
@@ -46,7 +48,9 @@ fn put_part(
     before: Stream,
     held: &mut [u8; 2050],
     part: &[u8],
-) -> Stream {
+) -> Stream
+    ensures same_reference { out.new.row.ghost_name ≡ out.old.row.ghost_name }
+{
     let mut stream = before;
     let mut rest = part;
     loop {
@@ -64,7 +68,9 @@ fn put_finish(
     out: &mut Out<'_, impl Print + Eprint>,
     before: Stream,
     held: &mut [u8; 2050],
-) -> Stream {
+) -> Stream
+    ensures same_reference { out.new.row.ghost_name ≡ out.old.row.ghost_name }
+{
     let given = finish(before, held);
     put_called(out, given.answer, given.taken);
     given.stream
@@ -78,7 +84,9 @@ fn is_token(answer: Answer) -> bool
 
 // The line of an answer, with how many bytes of the part were taken; END is without it. A refusal of the stream's own has a span of no
 // byte.
-fn put_called(out: &mut Out<'_, impl Print + Eprint>, answer: Answer, taken: usize) {
+fn put_called(out: &mut Out<'_, impl Print + Eprint>, answer: Answer, taken: usize)
+    ensures same_reference { out.new.row.ghost_name ≡ out.old.row.ghost_name }
+{
     match answer {
         Answer::Token {
             kind,

@@ -1,7 +1,7 @@
 // What is printed, gathered in a row of bytes that is written whenever it is full: a call of the system for each piece would cost
 // more than the lexing. A row of no bytes prints nothing. What cannot be written is told on standard error and is lost, so that each
 // call answers as if it were written.
-ghost use Rattle.std.specs.Prelude.{◌≡◌, take};
+ghost use Rattle.std.specs.Prelude.{◌≡◌, ◌≤◌, length, take};
 ghost use Rattle.rows.specs.Counts.{IsPrefixLen};
 ghost use Rattle.rows.specs.Out.{Within, Gives, filled_of, one_more, more};
 
@@ -14,7 +14,7 @@ pub struct Out<'a, P: Print + Eprint> {
     rt: &'a P,
     row: &'a mut [u8],
     filled: usize,
-    ghost within: { Within row.now filled },
+    pub ghost within: { Within row.now filled },
 }
 
 impl<'a, P: Print + Eprint> Out<'a, P> {
@@ -42,6 +42,7 @@ impl<'a, P: Print + Eprint> Out<'a, P> {
         }
     }
 
+    #[inline]
     #[tactic(auto, unfolding(crate::specs::Out::one_more))]
     pub fn put_byte(&mut self, b: u8)
         ensures same_reference { self.new.row.ghost_name ≡ self.old.row.ghost_name }
@@ -52,6 +53,19 @@ impl<'a, P: Print + Eprint> Out<'a, P> {
             self.filled += 1;
             return;
         }
+        self.put_first(b);
+    }
+
+    // Writes the full row, and puts the byte at its front. It stands apart, and so does `put_over`: what is put is mostly one byte or a few,
+    // and a call that might write costs more than that.
+    #[cold]
+    #[inline(never)]
+    #[tactic(auto, unfolding(crate::specs::Out::one_more))]
+    fn put_first(&mut self, b: u8)
+        requires { length self.old.row.now ≤ self.old.filled }
+        ensures same_reference { self.new.row.ghost_name ≡ self.old.row.ghost_name }
+        ensures gives { Gives (one_more self.old.row.now self.old.filled b) self.new.row.now self.new.filled }
+    {
         self.flush();
         if self.row.len() == 0 {
             return;
@@ -60,8 +74,26 @@ impl<'a, P: Print + Eprint> Out<'a, P> {
         self.filled = 1;
     }
 
-    #[tactic(auto, using(crate::proofs::OutLaws::put_on, crate::proofs::OutLaws::put_none))]
+    // A text for which there is room is copied whole.
+    #[tactic(auto, using(crate::proofs::OutLaws::put_fits))]
     pub fn put(&mut self, text: &[u8])
+        ensures same_reference { self.new.row.ghost_name ≡ self.old.row.ghost_name }
+        ensures gives { Gives (more self.old.row.now self.old.filled text.now) self.new.row.now self.new.filled }
+    {
+        if text.len() <= self.row.len() - self.filled {
+            let end = self.filled + text.len();
+            self.row[self.filled..end].copy_from_slice(text);
+            self.filled = end;
+            return;
+        }
+        self.put_over(text);
+    }
+
+    // Byte by byte, over the row's end.
+    #[cold]
+    #[inline(never)]
+    #[tactic(auto, using(crate::proofs::OutLaws::put_on, crate::proofs::OutLaws::put_none))]
+    fn put_over(&mut self, text: &[u8])
         ensures same_reference { self.new.row.ghost_name ≡ self.old.row.ghost_name }
         ensures gives { Gives (more self.old.row.now self.old.filled text.now) self.new.row.now self.new.filled }
     {
@@ -70,14 +102,27 @@ impl<'a, P: Print + Eprint> Out<'a, P> {
         }
     }
 
-    // What `print!(out; ..)` calls. The row takes everything, so that nothing fails.
-    pub fn print(&mut self, what: impl Display + Drop) {
-        let _told = self.write(what);
+    // What `print!(out; ..)` calls. The row takes everything, so that nothing fails. It is lent once more, since what a `Display` leaves of a
+    // writer is said only where it does not fail: so the row stays the one that was lent, whatever is printed.
+    pub fn print(&mut self, what: impl Display + Drop)
+        ensures same_reference { self.new.row.ghost_name ≡ self.old.row.ghost_name }
+    {
+        let mut lent = Out {
+            rt: self.rt,
+            row: &mut *self.row,
+            filled: self.filled,
+        };
+        let _told = lent.write(what);
+        let filled = lent.filled;
+        self.filled = filled.min(self.row.len());
     }
 
     // What `println!(out; ..)` calls.
-    pub fn println(&mut self, what: impl Display + Drop) {
-        let _told = self.writeln(what);
+    pub fn println(&mut self, what: impl Display + Drop)
+        ensures same_reference { self.new.row.ghost_name ≡ self.old.row.ghost_name }
+    {
+        self.print(what);
+        self.put_byte(b'\n');
     }
 }
 

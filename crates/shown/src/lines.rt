@@ -1,4 +1,7 @@
 // A line: a literal's name, what a call answers, and the buffer behind the call.
+ghost use Rattle.std.specs.Prelude.{◌≡◌};
+
+use hexdigits::digits::digit;
 use rows::out::Out;
 use spans::answers::ReadError;
 
@@ -11,17 +14,20 @@ pub(crate) fn put_call<F: FnOnce(&mut [u8]) -> Result<usize, ReadError>>(
     call: F,
 )
     requires { F.IsAlwaysCallable call }
+    ensures same_reference { out.new.row.ghost_name ≡ out.old.row.ghost_name }
 {
     buffer.fill(u8::MAX);
     let answer = call(buffer);
     print!(out; "{name}\t");
     put_answer(out, answer);
-    print!(out; "\t");
+    out.put_byte(b'\t');
     put_buffer(out, buffer);
-    println!(out;);
+    out.put_byte(b'\n');
 }
 
-fn put_answer(out: &mut Out<'_, impl Print + Eprint>, answer: Result<usize, ReadError>) {
+fn put_answer(out: &mut Out<'_, impl Print + Eprint>, answer: Result<usize, ReadError>)
+    ensures same_reference { out.new.row.ghost_name ≡ out.old.row.ghost_name }
+{
     match answer {
         Ok(n) => print!(out; "{n}"),
         Err(ReadError::NotThatLiteral) => print!(out; "NotThatLiteral"),
@@ -30,11 +36,14 @@ fn put_answer(out: &mut Out<'_, impl Print + Eprint>, answer: Result<usize, Read
 }
 
 // In hexadecimal; `-` where it has no byte.
-fn put_buffer(out: &mut Out<'_, impl Print + Eprint>, buffer: &[u8]) {
+fn put_buffer(out: &mut Out<'_, impl Print + Eprint>, buffer: &[u8])
+    ensures same_reference { out.new.row.ghost_name ≡ out.old.row.ghost_name }
+{
     if buffer.is_empty() {
         print!(out; "-");
     }
-    for b in buffer {
-        print!(out; "{b:02X}");
+    for &b in buffer {
+        out.put_byte(digit(b / 16));
+        out.put_byte(digit(b % 16));
     }
 }

@@ -1,5 +1,7 @@
 // What is printed of a span: what each call that reads a literal answers for it. A record's text is the span's length and the buffer's, 4
 // bytes each with the lowest first, then the text that the span is of.
+ghost use Rattle.std.specs.Prelude.{◌≡◌};
+
 use crate::lines::put_call;
 use crate::numbers::number;
 use blobs::reading::read_blob;
@@ -23,7 +25,9 @@ pub fn put_literals(
     start: usize,
     profile: Profile,
     lent: &mut [u8],
-) {
+)
+    ensures same_reference { out.new.row.ghost_name ≡ out.old.row.ghost_name }
+{
     if record.len() < 8 {
         return;
     }
@@ -44,7 +48,9 @@ pub fn put_literals(
     println!(out;);
 }
 
-fn put_integer_read(out: &mut Out<'_, impl Print + Eprint>, answer: Result<i64, IntegerError>) {
+fn put_integer_read(out: &mut Out<'_, impl Print + Eprint>, answer: Result<i64, IntegerError>)
+    ensures same_reference { out.new.row.ghost_name ≡ out.old.row.ghost_name }
+{
     print!(out; "INTEGER\t");
     match answer {
         Ok(value) => println!(out; "{value}"),

@@ -1,4 +1,6 @@
 // What is printed of bytes: what each call that writes a literal answers for them, and for the integer that they begin with.
+ghost use Rattle.std.specs.Prelude.{◌≡◌};
+
 use crate::lines::put_call;
 use crate::numbers::value_of;
 use blobs::writing::write_blob;
@@ -21,7 +23,9 @@ pub fn put_writes(
     bytes: &[u8],
     length: usize,
     lent: &mut [u8],
-) {
+)
+    ensures same_reference { out.new.row.ghost_name ≡ out.old.row.ghost_name }
+{
     let n = filled(lent, length);
     let buffer = &mut lent[..n];
     put_call(out, "STRING", buffer, |buffer| {

@@ -1,7 +1,7 @@
 -- What is still to be put gives the same row.
 use Rattle.std.proofs.Common.{drop, ◌≡◌}
 use Rattle.rows.specs.Out.{more}
-use Rattle.rows.proofs.out.Out.put.Given as goal
+use Rattle.rows.proofs.out.Out.put_over.Given as goal
 
 abbrev pub invariant-loop-b : goal.invariant-loop-b
 invariant-loop-b g l =
