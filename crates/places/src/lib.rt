@@ -33,7 +33,8 @@ pub fn line_behind(text: &[u8], from: usize, to: usize, line: Line) -> Line
     let mut at = from;
     loop {
         let stop = next_newline(text, at, end);
-        if stop == end {
+        // It is never beyond the end; with `==` each byte that is looked at by itself takes two instructions more.
+        if stop >= end {
             return here;
         }
         here = Line {

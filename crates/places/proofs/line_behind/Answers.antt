@@ -1,6 +1,6 @@
 -- `places::line_behind` meets its contract. Assumes nothing.
 use native.Mathlib.Omega.{arith}
-use Rattle.places.proofs.LineLaws.{along-begins, along-none, along-ends, along-before, along-on}
+use Rattle.places.proofs.LineLaws.{along-begins, along-none, along-ends, along-on}
 use Rattle.places.proofs.line_behind.Goals as goal
 
 pub returns-then-end-from : goal.returns-then-end-from
@@ -14,32 +14,11 @@ next_newline-stop-requires c = (c.loop-here.invariant.left, c.loop-here.invarian
 
 pub returns-then-stop-end : goal.returns-then-stop-end
 returns-then-stop-end c =
-    along-ends c.loop-here.invariant c.next_newline-stop.ensures c.if-stop-end.true _ c.min-end.ensures
-
-pub overflow_add-here : goal.overflow_add-here
-overflow_add-here c =
-    let if2 = c.if-stop-end in
     let next-newline = c.next_newline-stop in
-    let loop = c.loop-here in
-    omega (arith, along-before loop.invariant next-newline.ensures if2.false)
-
-pub overflow_add-at : goal.overflow_add-at
-overflow_add-at c =
-    let if2 = c.if-stop-end in
-    let next-newline = c.next_newline-stop in
-    let loop = c.loop-here in
-    omega (arith, along-before loop.invariant next-newline.ensures if2.false)
-
-pub loop-here-smaller : goal.loop-here-smaller
-loop-here-smaller c =
-    let if2 = c.if-stop-end in
-    let next-newline = c.next_newline-stop in
-    let loop = c.loop-here in
-    omega (arith, along-before loop.invariant next-newline.ensures if2.false, next-newline.ensures.0.begin)
+    along-ends c.loop-here.invariant next-newline.ensures (omega (arith, c.if-stop-end.true, next-newline.ensures.0.inside)) _ c.min-end.ensures
 
 pub loop-here-preserved : goal.loop-here-preserved
 loop-here-preserved c =
-    let if2 = c.if-stop-end in
     let next-newline = c.next_newline-stop in
-    let loop = c.loop-here in
-    along-on loop.invariant next-newline.ensures if2.false _ c.saturating_add.ensures
+    let behind = c.if-stop-end.false in
+    along-on c.loop-here.invariant next-newline.ensures (λ e. omega (arith, behind, e)) _ c.saturating_add.ensures
