@@ -12,14 +12,18 @@ pub fn put_line(out: &mut Out<'_, impl Print + Eprint>, name: &str, numbers: &[u
     out.put_byte(b'\n');
 }
 
-// The same, and the line goes on.
+// The same, and the line goes on. A number of one digit is put as that byte: with a format for each, a stream in parts of one byte took a fifth more
+// time (docs/PERFORMANCE.md).
 pub(crate) fn put_columns(out: &mut Out<'_, impl Print + Eprint>, name: &str, numbers: &[usize])
     ensures same_reference { out.new.row.ghost_name ≡ out.old.row.ghost_name }
 {
     out.put(name.as_bytes());
-    for n in numbers {
+    for &n in numbers {
         out.put_byte(b'\t');
-        print!(out; "{n}");
+        match n {
+            0..=9 => out.put_byte(b'0' + n as u8),
+            _ => print!(out; "{n}"),
+        }
     }
 }
 
